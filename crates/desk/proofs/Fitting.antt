@@ -1,0 +1,105 @@
+-- What is known of one element where all keep their limits.
+use mathlib.Core.Path.{_≡_, refl, ap, _∙_, subst}
+use mathlib.Core.List.{List, [], _∷_, _++_}
+use mathlib.Core.Bool.{Bool, true, false, cond, _&&_}
+use Prim.Native.Nat.{ℕ, zero, suc, _*_, _<_, _≤_}
+use native.Mathlib.Nat.{mul-le-mul}
+use native.Mathlib.Omega.{arith}
+use lib.Dec.{eqb}
+use lib.ListN.{length, getD}
+use Rattle.std.specs.Options.{valueOr}
+use Rattle.std.specs.shelf.Lists.{kept-by}
+use Rattle.std.specs.declared.option.Option.{Option}
+use Rattle.std.specs.declared.option.Option.the-variants.{Some, None}
+use Rattle.std.proofs.shelf.Tests.{and-parts, and-from}
+use Rattle.std.proofs.shelf.Ways.{tells}
+use Rattle.rules.specs.declared.rows.Row.{Row}
+use Rattle.rules.specs.declared.orders.LiveOrder.{LiveOrder}
+use Rattle.rules.specs.declared.contracts.Contract.{Contract}
+use Rattle.rules.specs.Terms.{found, good-row}
+use Rattle.rules.specs.Limits.{no-row, row-of}
+use Rattle.desk.specs.Fits.{all-fit, fit-row, fit-order, fit-contract, fit-state}
+
+module _ {X : Type 0} (p : X → Bool) where
+  pub fit-at : (xs : List X) (i : ℕ) (d : X) → i < length xs → all-fit p xs ≡ true → p (getD xs i d) ≡ true
+  fit-at [] i d inside h = absurd (omega arith)
+  fit-at (x ∷ xs) zero d inside h = and-parts (p x) (all-fit p xs) h .0
+  fit-at (x ∷ xs) (suc i) d inside h = fit-at xs i d (omega arith) (and-parts (p x) (all-fit p xs) h .1)
+
+  -- x is the element at i
+  pub fit-read : (xs : List X) (i : ℕ) (x : X) → x ≡ getD xs i x → i < length xs → all-fit p xs ≡ true → p x ≡ true
+  fit-read xs i x e inside h = ap p e ∙ fit-at xs i x inside h
+
+  pub fit-push : (xs : List X) (x : X) → all-fit p xs ≡ true → p x ≡ true → all-fit p (xs ++ x ∷ []) ≡ true
+  fit-push [] x h one = and-from (p x) true one refl
+  fit-push (y ∷ ys) x h one = let both = and-parts (p y) (all-fit p ys) h in and-from (p y) _ (both .0) (fit-push ys x (both .1) one)
+
+  kept-one : (t : Bool) (q : X → Bool) (x : X) (xs : List X) → p x ≡ true → all-fit p (kept-by q xs) ≡ true → all-fit p (cond t (x ∷ kept-by q xs) (kept-by q xs)) ≡ true
+  kept-one true q x xs one rest = and-from _ _ one rest
+  kept-one false q x xs one rest = rest
+
+  pub fit-kept : (q : X → Bool) (xs : List X) → all-fit p xs ≡ true → all-fit p (kept-by q xs) ≡ true
+  fit-kept q [] h = refl
+  fit-kept q (x ∷ xs) h = let both = and-parts (p x) (all-fit p xs) h in kept-one (q x) q x xs (both .0) (fit-kept q xs (both .1))
+
+  value-fit : (t : Bool) (x d : X) (r : Option X) → p x ≡ true → p (valueOr r d) ≡ true → p (valueOr (cond t (Some x) r) d) ≡ true
+  value-fit true x d r one rest = one
+  value-fit false x d r one rest = rest
+
+  -- what is found by its number, or what stands for it
+  pub fit-found : (number : X → ℕ) (n : ℕ) (xs : List X) (d : X) → all-fit p xs ≡ true → p d ≡ true → p (valueOr (found number n xs) d) ≡ true
+  fit-found number n [] d h one = one
+  fit-found number n (x ∷ xs) d h one =
+      let both = and-parts (p x) (all-fit p xs) h in
+      value-fit (eqb (number x) n) x d (found number n xs) (both .0) (fit-found number n xs d (both .1) one)
+
+-- the limits, one by one
+pub record Row-limits (r : Row) : Type 0 where
+  pub number : r .number ≤ 15
+  pub weight : r .weight ≤ 100000
+  pub funding : r .funding ≤ 90
+  pub delivery : r .delivery ≤ 90
+
+pub row-limits : (r : Row) → fit-row r ≡ true → Row-limits r
+row-limits r h = record { number = grind (arith, tells); weight = grind (arith, tells); funding = grind (arith, tells); delivery = grind (arith, tells) }
+
+pub record Order-limits (o : LiveOrder) : Type 0 where
+  pub member : o .order .member ≤ 63
+  pub instrument : o .order .instrument ≤ 15
+  pub price : o .order .price ≤ 1000000000
+  pub rest : o .rest ≤ 10000
+
+pub order-limits : (o : LiveOrder) → fit-order o ≡ true → Order-limits o
+order-limits o h = record { member = grind (arith, tells); instrument = grind (arith, tells); price = grind (arith, tells); rest = grind (arith, tells) }
+
+pub record Contract-limits (k : Contract) : Type 0 where
+  pub buyer : k .buyer ≤ 63
+  pub seller : k .seller ≤ 63
+  pub instrument : k .instrument ≤ 15
+  pub price : k .trade .price ≤ 1000000000
+  pub lots : k .trade .lots ≤ 10000
+  pub delivery : k .delivery ≤ 36590
+  pub state : fit-state (k .state) ≡ true
+
+pub contract-limits : (k : Contract) → fit-contract k ≡ true → Contract-limits k
+contract-limits k h =
+    record {
+      buyer = grind (arith, tells);
+      seller = grind (arith, tells);
+      instrument = grind (arith, tells);
+      price = grind (arith, tells);
+      lots = grind (arith, tells);
+      delivery = grind (arith, tells);
+      state = grind (arith, tells);
+    }
+
+-- products within their limits
+pub weight-bound : (r : Row) (lots : ℕ) → fit-row r ≡ true → lots ≤ 10000 → lots * r .weight ≤ 1000000000
+weight-bound r lots h few = mul-le-mul few (row-limits r h .weight)
+
+pub value-bound : (k : Contract) → fit-contract k ≡ true → k .trade .price * k .trade .lots ≤ 10000000000000
+value-bound k h = let l = contract-limits k h in mul-le-mul (l .price) (l .lots)
+
+-- a good row keeps the limits
+pub good-fit : (top : ℕ) (r : Row) → good-row top r ≡ true → fit-row r ≡ true
+good-fit top r h = grind (arith, tells)

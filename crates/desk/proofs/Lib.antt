@@ -1,0 +1,5 @@
+pub mod Searches
+pub mod Sums
+pub mod Fitting
+pub mod Openings
+pub mod Counting
