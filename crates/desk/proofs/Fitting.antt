@@ -7,11 +7,11 @@ use native.Mathlib.Nat.{mul-le-mul}
 use native.Mathlib.Omega.{arith}
 use lib.Dec.{eqb}
 use lib.ListN.{length, getD}
-use Rattle.std.specs.Options.{valueOr}
+use Rattle.std.specs.Options.{Cases, valueOr}
 use Rattle.std.specs.shelf.Lists.{kept-by}
 use Rattle.std.specs.declared.option.Option.{Option}
 use Rattle.std.specs.declared.option.Option.the-variants.{Some, None}
-use Rattle.std.proofs.shelf.Tests.{and-parts, and-from}
+use Rattle.std.proofs.shelf.Tests.{and-parts, and-from, eqb-true}
 use Rattle.std.proofs.shelf.Ways.{tells}
 use Rattle.rules.specs.declared.rows.Row.{Row}
 use Rattle.rules.specs.declared.orders.LiveOrder.{LiveOrder}
@@ -45,6 +45,21 @@ module _ {X : Type 0} (p : X → Bool) where
   value-fit : (t : Bool) (x d : X) (r : Option X) → p x ≡ true → p (valueOr r d) ≡ true → p (valueOr (cond t (Some x) r) d) ≡ true
   value-fit true x d r one rest = one
   value-fit false x d r one rest = rest
+
+  module _ (number : X → ℕ) (n : ℕ) where
+    told-one : (t : Bool) (x : X) (r : Option X) → eqb (number x) n ≡ t → p x ≡ true → Cases r (Unit {0}) (λ y. (number y ≡ n) × (p y ≡ true)) → Cases (cond t (Some x) r) (Unit {0}) (λ y. (number y ≡ n) × (p y ≡ true))
+    told-one true x r e one rest = (eqb-true (number x) n e, one)
+    told-one false x r e one rest = rest
+
+    -- what is found has the number, and keeps the limits
+    pub found-told : (xs : List X) → all-fit p xs ≡ true → Cases (found number n xs) (Unit {0}) (λ y. (number y ≡ n) × (p y ≡ true))
+    found-told [] h = tt
+    found-told (x ∷ xs) h =
+        let both = and-parts (p x) (all-fit p xs) h in
+        told-one (eqb (number x) n) x (found number n xs) refl (both .0) (found-told xs (both .1))
+
+    pub found-is : (r : Option X) (xs : List X) → r ≡ found number n xs → all-fit p xs ≡ true → Cases r (Unit {0}) (λ y. (number y ≡ n) × (p y ≡ true))
+    found-is r xs e h = rw e (found-told xs h)
 
   -- what is found by its number, or what stands for it
   pub fit-found : (number : X → ℕ) (n : ℕ) (xs : List X) (d : X) → all-fit p xs ≡ true → p d ≡ true → p (valueOr (found number n xs) d) ≡ true

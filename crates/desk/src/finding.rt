@@ -3,7 +3,8 @@ ghost use mathlib.Core.Bool.{true};
 ghost use mathlib.Core.Path.{_≡_};
 ghost use Prim.Native.Nat.{ℕ};
 ghost use Rattle.std.specs.Of.Vec.{vec-items};
-ghost use Rattle.desk.specs.Fits.{all-fit, fit-row};
+ghost use Rattle.std.specs.Options.{Cases as BySome};
+ghost use Rattle.desk.specs.Fits.{all-fit, fit-contract, fit-order, fit-row};
 ghost use Rattle.rules.specs.Terms.{found, found-row};
 ghost use Rattle.rules.specs.Limits.{found-order, found-contract, row-of};
 use crate::desk::Desk;
@@ -78,21 +79,24 @@ pub(crate) fn row_or_none(rows: &[Row], number: u64) -> Row
 impl Desk {
     /// The row in force for an instrument.
     pub fn row(&self, instrument: u64) -> Option<Row>
-        ensures { λ r. ⌜ r ≡ found-row instrument (vec-items (now (self .entry) .rows)) ⌝ }
+        ensures value { λ r. ⌜ r ≡ found-row instrument (vec-items (now (self .entry) .rows)) ⌝ }
+        ensures fit { λ r. ⌜ BySome r (Unit {0}) (λ x. (x .number ≡ instrument) × (fit-row x ≡ true)) ⌝ }
     {
         find(self.rows.as_slice(), instrument)
     }
 
     /// The live order of that number.
     pub fn order(&self, number: u64) -> Option<LiveOrder>
-        ensures { λ r. ⌜ r ≡ found-order number (vec-items (now (self .entry) .orders)) ⌝ }
+        ensures value { λ r. ⌜ r ≡ found-order number (vec-items (now (self .entry) .orders)) ⌝ }
+        ensures fit { λ r. ⌜ BySome r (Unit {0}) (λ x. (x .order .number ≡ number) × (fit-order x ≡ true)) ⌝ }
     {
         find(self.orders.as_slice(), number)
     }
 
     /// The live contract of that number.
     pub fn contract(&self, number: u64) -> Option<Contract>
-        ensures { λ r. ⌜ r ≡ found-contract number (vec-items (now (self .entry) .contracts)) ⌝ }
+        ensures value { λ r. ⌜ r ≡ found-contract number (vec-items (now (self .entry) .contracts)) ⌝ }
+        ensures fit { λ r. ⌜ BySome r (Unit {0}) (λ x. (x .trade .contract ≡ number) × (fit-contract x ≡ true)) ⌝ }
     {
         find(self.contracts.as_slice(), number)
     }
