@@ -1,8 +1,8 @@
 -- What is known of one element where all keep their limits.
 use mathlib.Core.Path.{_≡_, refl, ap, _∙_, subst}
-use mathlib.Core.List.{List, [], _∷_, _++_}
-use mathlib.Core.Bool.{Bool, true, false, cond, _&&_}
-use Prim.Native.Nat.{ℕ, zero, suc, _*_, _<_, _≤_}
+use mathlib.Core.List.{List, [], _∷_, _++_, map}
+use mathlib.Core.Bool.{Bool, true, false, cond, _&&_, _||_}
+use Prim.Native.Nat.{ℕ, zero, suc, _-_, _*_, _<_, _≤_}
 use native.Mathlib.Nat.{mul-le-mul}
 use native.Mathlib.Omega.{arith}
 use lib.Dec.{eqb}
@@ -14,10 +14,14 @@ use Rattle.std.specs.declared.option.Option.the-variants.{Some, None}
 use Rattle.std.proofs.shelf.Tests.{and-parts, and-from, eqb-true}
 use Rattle.std.proofs.shelf.Ways.{tells}
 use Rattle.rules.specs.declared.rows.Row.{Row}
+use Rattle.rules.specs.declared.orders.Order.{Order}
 use Rattle.rules.specs.declared.orders.LiveOrder.{LiveOrder}
+use Rattle.rules.specs.declared.contracts.Trade.{Trade}
 use Rattle.rules.specs.declared.contracts.Contract.{Contract}
-use Rattle.rules.specs.Terms.{found, good-row}
+use Rattle.rules.specs.Terms.{found, good-order, good-row}
 use Rattle.rules.specs.Limits.{no-row, row-of}
+use Rattle.rules.specs.Orders.{at-rest, lowered-by, unfilled}
+use Rattle.rules.specs.Effects.{rerated}
 use Rattle.desk.specs.Fits.{all-fit, fit-row, fit-order, fit-contract, fit-state}
 
 module _ {X : Type 0} (p : X → Bool) where
@@ -33,6 +37,15 @@ module _ {X : Type 0} (p : X → Bool) where
   pub fit-push : (xs : List X) (x : X) → all-fit p xs ≡ true → p x ≡ true → all-fit p (xs ++ x ∷ []) ≡ true
   fit-push [] x h one = and-from (p x) true one refl
   fit-push (y ∷ ys) x h one = let both = and-parts (p y) (all-fit p ys) h in and-from (p y) _ (both .0) (fit-push ys x (both .1) one)
+
+  pub fit-map : (f : X → X) → ((x : X) → p x ≡ true → p (f x) ≡ true) → (xs : List X) → all-fit p xs ≡ true → all-fit p (map f xs) ≡ true
+  fit-map f each [] h = refl
+  fit-map f each (x ∷ xs) h = let both = and-parts (p x) (all-fit p xs) h in and-from (p (f x)) _ (each x (both .0)) (fit-map f each xs (both .1))
+
+  -- a change of some elements
+  pub fit-changed : (t : Bool) (x y : X) → p x ≡ true → p y ≡ true → p (cond t x y) ≡ true
+  fit-changed true x y one other = one
+  fit-changed false x y one other = other
 
   kept-one : (t : Bool) (q : X → Bool) (x : X) (xs : List X) → p x ≡ true → all-fit p (kept-by q xs) ≡ true → all-fit p (cond t (x ∷ kept-by q xs) (kept-by q xs)) ≡ true
   kept-one true q x xs one rest = and-from _ _ one rest
@@ -118,3 +131,14 @@ value-bound k h = let l = contract-limits k h in mul-le-mul (l .price) (l .lots)
 -- a good row keeps the limits
 pub good-fit : (top : ℕ) (r : Row) → good-row top r ≡ true → fit-row r ≡ true
 good-fit top r h = grind (arith, tells)
+
+pub order-fit : (o : Order) → o .member ≤ 63 → o .instrument ≤ 15 → good-order o ≡ true → fit-order (unfilled o) ≡ true
+order-fit o m i h = grind (arith, tells)
+
+pub lowered-fit : (t : Trade) (o : LiveOrder) → fit-order o ≡ true → fit-order (lowered-by t o) ≡ true
+lowered-fit t o h =
+    let less : fit-order (at-rest o (o .rest - t .lots)) ≡ true = grind (arith, tells) in
+    fit-changed fit-order (eqb (o .order .number) (t .buy) || eqb (o .order .number) (t .sell)) _ o less h
+
+pub rerated-fit : (i rate : ℕ) (r : Row) → fit-row r ≡ true → fit-row (rerated i rate r) ≡ true
+rerated-fit i rate r h = fit-changed fit-row (eqb (r .number) i) _ r h h

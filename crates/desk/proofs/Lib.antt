@@ -3,3 +3,4 @@ pub mod Sums
 pub mod Fitting
 pub mod Openings
 pub mod Counting
+pub mod Changing

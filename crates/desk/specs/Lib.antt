@@ -1,2 +1,3 @@
 pub mod Fits
 pub mod Views
+pub mod Called

@@ -9,7 +9,7 @@ ghost use Rattle.rules.specs.Orders.{ends-on, goes-on};
 ghost use Rattle.desk.specs.Views.{desk-of};
 use crate::desk::Desk;
 use crate::lists::GoesOn;
-use crate::lists::KeepsGoing;
+use crate::lists::OrdersGoingOn;
 use crate::lists::retain;
 
 /// The day stops here.

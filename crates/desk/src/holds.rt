@@ -20,7 +20,7 @@ use rules::rows::Kind;
 use rules::rows::Row;
 
 /// The charge that an order holds, at its price for its rest; a sell in a warehouse holds none.
-fn order_money<R: ChargeRule>(rule: &R, row: &Row, live: &LiveOrder) -> u64
+pub(crate) fn order_money<R: ChargeRule>(rule: &R, row: &Row, live: &LiveOrder) -> u64
     ensures value { λ r. ⌜ r ≡ order-money (R·ChargeRule .charge (now (rule .entry))) (now (row .entry)) (now (live .entry)) ⌝ }
     ensures bound { λ r. ⌜ r ≤ 100000000000000 ⌝ }
 {
@@ -31,7 +31,7 @@ fn order_money<R: ChargeRule>(rule: &R, row: &Row, live: &LiveOrder) -> u64
 }
 
 /// Until a contract is funded, the buyer's charge at his order's price.
-fn buyer_charge<R: ChargeRule>(rule: &R, row: &Row, contract: &Contract) -> u64
+pub(crate) fn buyer_charge<R: ChargeRule>(rule: &R, row: &Row, contract: &Contract) -> u64
     ensures value { λ r. ⌜ r ≡ buyer-charge (R·ChargeRule .charge (now (rule .entry))) (now (row .entry)) (now (contract .entry)) ⌝ }
     ensures bound { λ r. ⌜ r ≤ 100000000000000 ⌝ }
 {
@@ -42,7 +42,7 @@ fn buyer_charge<R: ChargeRule>(rule: &R, row: &Row, contract: &Contract) -> u64
 }
 
 /// If the seller ships, his charge at his order's price.
-fn seller_charge<R: ChargeRule>(rule: &R, row: &Row, contract: &Contract) -> u64
+pub(crate) fn seller_charge<R: ChargeRule>(rule: &R, row: &Row, contract: &Contract) -> u64
     ensures value { λ r. ⌜ r ≡ seller-charge (R·ChargeRule .charge (now (rule .entry))) (now (row .entry)) (now (contract .entry)) ⌝ }
     ensures bound { λ r. ⌜ r ≤ 100000000000000 ⌝ }
 {
@@ -74,7 +74,7 @@ pub(crate) fn value(contract: &Contract) -> u64
 }
 
 /// The goods that an order holds: the weight of its rest, for a sell in a warehouse.
-fn order_goods(row: &Row, live: &LiveOrder) -> u64
+pub(crate) fn order_goods(row: &Row, live: &LiveOrder) -> u64
     requires row { ⌜ fit-row (now row) ≡ true ⌝ }
     requires order { ⌜ fit-order (now live) ≡ true ⌝ }
     ensures value { λ r. ⌜ r ≡ order-goods (now (row .entry)) (now (live .entry)) ⌝ }

@@ -5,6 +5,9 @@ mod finding;
 mod holds;
 mod lists;
 mod opening;
+mod orders;
 mod totals;
+mod trades;
 
 pub use desk::Desk;
+pub use orders::Admission;

@@ -56,6 +56,11 @@ abbrev pub first-met : List Check → Option Refusal → Option Refusal
 first-met [] last = last
 first-met (c ∷ cs) last = cond (c .0) (Some (c .1)) (first-met cs last)
 
+-- the book's own word: the first check that is met, if any
+abbrev pub allowed : List Check → Result (Unit {0}) Refusal
+allowed [] = Ok tt
+allowed (c ∷ cs) = cond (c .0) (Err (c .1)) (allowed cs)
+
 -- what a call is refused for: the book's checks, then the keepers
 abbrev pub ruling : Ledger → Feed → Call → Option Refusal
 ruling b f c = first-met (checks b c) (keepers-say (b .money) (b .goods) f (entries b c .money) (entries b c .goods))

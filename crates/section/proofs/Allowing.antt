@@ -1,24 +1,30 @@
 -- The book's checks, and the ruling that follows from them.
 use mathlib.Core.Path.{_≡_, refl, sym, ap, _∙_}
-use mathlib.Core.Bool.{Bool, true, false, cond}
+use mathlib.Core.Bool.{Bool, true, false, cond, not}
 use mathlib.Core.List.{List, [], _∷_, _++_}
 use Prim.Native.Nat.{ℕ}
 use native.Mathlib.Omega.{arith}
+use lib.Dec.{leb}
 use lib.IntN.{pos}
 use lib.Signed.{ltZ}
 use Rattle.std.specs.declared.option.Option.{Option}
 use Rattle.std.specs.declared.option.Option.the-variants.{Some, None}
 use Rattle.std.specs.declared.result.Result.{Result}
 use Rattle.std.specs.declared.result.Result.the-variants.{Ok, Err}
+use Rattle.std.proofs.shelf.Tests.{and-parts, cond-false}
+use Rattle.rules.specs.declared.orders.Order.{Order}
+use Rattle.rules.specs.declared.contracts.Trade.{Trade}
 use Rattle.rules.specs.declared.refusals.Refusal.{Refusal}
 use Rattle.rules.specs.declared.refusals.Refusal.the-variants.{FreeLimit}
 use Rattle.rules.specs.declared.calls.Call.{Call}
-use Rattle.rules.specs.declared.calls.Call.the-variants.{DepositGoods, WithdrawGoods}
-use Rattle.rules.specs.Limits.{Ledger, free-goods}
+use Rattle.rules.specs.declared.calls.Call.the-variants.{DepositGoods, WithdrawGoods, Place, Execute}
+use Rattle.rules.specs.Limits.{Desk, Ledger, free-goods, known}
 use Rattle.rules.specs.Checks.{Check, checks}
-use Rattle.rules.specs.Rulings.{first-met}
+use Rattle.rules.specs.Rulings.{allowed, first-met}
 use Rattle.rules.specs.Runs.{Point, Called}
-use Rattle.section.specs.Views.{allowed, alone}
+use Rattle.rules.specs.Orders.{order-hold, order-limit}
+use Rattle.desk.specs.Called.{Desk-called, alone, order-checks, order-terms}
+use Rattle.desk.specs.Views.{holding}
 
 one-err : (t : Bool) (d e : Refusal) (r : Result (Unit {0}) Refusal) (o : Option Refusal) → (r ≡ Err e → o ≡ Some e) → cond t (Err d) r ≡ Err e → cond t (Some d) o ≡ Some e
 one-err true d e r o rest h = cc
@@ -56,3 +62,25 @@ module _ (p : Point) (c : Call) (e : Refusal) (h : Err e ≡ allowed (checks (p 
 
   pub refused-alone : (r : Result ℕ Refusal) → r ≡ Err e → Called p c (alone r) p
   refused-alone r is = rw is (allowed-err (checks (p .ledger) c) _ e (sym h), refl)
+
+-- what the desk refuses an order for
+pub order-refused : (b : Ledger) (o : Order) (e : Refusal) → known b (o .member) ≡ true → allowed (order-checks (holding (b .charge) (b .desk)) o) ≡ Err e → Err e ≡ allowed (checks b (Place o))
+order-refused b o e is h =
+    let small = and-parts (leb (o .member) 63) _ is .0 in
+    let terms = sym (cond-false (not (leb (o .member) 63)) _ (allowed (order-terms b o)) (ap not small)) ∙ h in
+    let more = allowed-more (order-terms b o) ((ltZ (order-limit b o) (pos (order-hold b o)), FreeLimit) ∷ []) e terms in
+    sym (cond-false (not (known b (o .member))) _ (allowed (order-terms b o ++ (ltZ (order-limit b o) (pos (order-hold b o)), FreeLimit) ∷ [])) (ap not is) ∙ more)
+
+-- a ledger with another desk
+abbrev pub with-desk : Point → Desk → Point
+with-desk p d =
+    record {
+      ledger = record { top = p .ledger .top; charge = p .ledger .charge; desk = d; money = p .ledger .money; goods = p .ledger .goods };
+      money = p .money;
+      goods = p .goods;
+    }
+
+-- a trade is the desk's alone
+pub executed : (p : Point) (t : Trade) (r : Result (ℕ × ℕ) Refusal) (d : Desk) → Desk-called (holding (p .ledger .charge) (p .ledger .desk)) (Execute t) r d → Called p (Execute t) r (with-desk p d)
+executed p t (Ok v) d h = (allowed-ok (checks (p .ledger) (Execute t)) None (h .0), h .1, ap (λ x. with-desk p x .ledger) (h .2), refl, refl)
+executed p t (Err e) d h = (allowed-err (checks (p .ledger) (Execute t)) None e (h .0), ap (with-desk p) (h .1))

@@ -1,2 +1,3 @@
 pub mod Amounts
 pub mod Allowing
+pub mod Shorts

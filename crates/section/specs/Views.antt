@@ -1,6 +1,4 @@
 -- What a book stands for, and what is owed of each call to it. Assumes nothing.
-use mathlib.Core.Bool.{cond}
-use mathlib.Core.List.{List, [], _∷_}
 use Prim.Native.Nat.{ℕ}
 use Rattle.std.specs.declared.result.Result.{Result}
 use Rattle.std.specs.declared.result.Result.the-variants.{Ok, Err}
@@ -9,7 +7,6 @@ use Rattle.charge.specs.declared.rule.ChargeRule as rule
 use Rattle.rules.specs.declared.refusals.Refusal.{Refusal}
 use Rattle.rules.specs.declared.calls.Call.{Call}
 use Rattle.rules.specs.Limits.{Half, Ledger}
-use Rattle.rules.specs.Checks.{Check}
 use Rattle.rules.specs.Runs.{Point, Called}
 use Rattle.desk.specs.Views.{desk-of}
 use Rattle.section.specs.declared.book.Book.{Book}
@@ -33,13 +30,3 @@ module _ {H M G R : Type 0} (h : Half) (m : registers.Ghosts M) (g : registers.G
   -- a call to a book came out by the rules
   abbrev pub Calls : Book H M G R → Call → Result (ℕ × ℕ) Refusal → Book H M G R → Type 0
   Calls b c v b′ = Called (point-of b) c v (point-of b′)
-
--- the first of the checks that is met
-abbrev pub allowed : List Check → Result (Unit {0}) Refusal
-allowed [] = Ok tt
-allowed (c ∷ cs) = cond (c .0) (Err (c .1)) (allowed cs)
-
--- an answer of one number; the second is 0
-abbrev pub alone : Result ℕ Refusal → Result (ℕ × ℕ) Refusal
-alone (Ok v) = Ok (v, 0)
-alone (Err e) = Err e
