@@ -2,7 +2,7 @@
 use mathlib.Core.Path.{_≡_, refl, ap, _∙_, subst}
 use mathlib.Core.List.{List, [], _∷_, _++_, map}
 use mathlib.Core.Bool.{Bool, true, false, cond, _&&_, _||_}
-use Prim.Native.Nat.{ℕ, zero, suc, _-_, _*_, _<_, _≤_}
+use Prim.Native.Nat.{ℕ, zero, suc, _+_, _-_, _*_, _<_, _≤_, min}
 use native.Mathlib.Nat.{mul-le-mul}
 use native.Mathlib.Omega.{arith}
 use lib.Dec.{eqb}
@@ -11,17 +11,20 @@ use Rattle.std.specs.Options.{Cases, valueOr}
 use Rattle.std.specs.shelf.Lists.{kept-by}
 use Rattle.std.specs.declared.option.Option.{Option}
 use Rattle.std.specs.declared.option.Option.the-variants.{Some, None}
-use Rattle.std.proofs.shelf.Tests.{and-parts, and-from, eqb-true}
+use Rattle.std.proofs.shelf.Tests.{and-parts, and-from, eqb-true, leb-true}
 use Rattle.std.proofs.shelf.Ways.{tells}
 use Rattle.rules.specs.declared.rows.Row.{Row}
 use Rattle.rules.specs.declared.orders.Order.{Order}
 use Rattle.rules.specs.declared.orders.LiveOrder.{LiveOrder}
 use Rattle.rules.specs.declared.contracts.Trade.{Trade}
+use Rattle.rules.specs.declared.contracts.State.{State}
+use Rattle.rules.specs.declared.contracts.State.the-variants.{Unfunded, Funded}
 use Rattle.rules.specs.declared.contracts.Contract.{Contract}
+use Rattle.rules.specs.Holds.{delivered}
 use Rattle.rules.specs.Terms.{found, good-order, good-row}
 use Rattle.rules.specs.Limits.{no-row, row-of}
 use Rattle.rules.specs.Orders.{at-rest, lowered-by, unfilled}
-use Rattle.rules.specs.Effects.{rerated}
+use Rattle.rules.specs.Effects.{in-state, rerated, with-state}
 use Rattle.desk.specs.Fits.{all-fit, fit-row, fit-order, fit-contract, fit-state}
 
 module _ {X : Type 0} (p : X → Bool) where
@@ -142,3 +145,19 @@ lowered-fit t o h =
 
 pub rerated-fit : (i rate : ℕ) (r : Row) → fit-row r ≡ true → fit-row (rerated i rate r) ≡ true
 rerated-fit i rate r h = fit-changed fit-row (eqb (r .number) i) _ r h h
+
+state-delivered : (s : State) → fit-state s ≡ true → delivered s ≤ 1000000000
+state-delivered Unfunded h = omega arith
+state-delivered (Funded kg paid) h = leb-true kg 1000000000 h
+
+-- all kilograms of a contract after a delivery
+pub kilograms-bound : (r : Row) (k : Contract) (before counted reported : ℕ) → fit-row r ≡ true → fit-contract k ≡ true → before ≡ delivered (k .state) → counted ≡ min reported (k .trade .lots * r .weight - before) → before + counted ≤ 1000000000
+kilograms-bound r k before counted reported row fit is count =
+    let l = contract-limits k fit in
+    omega (arith, weight-bound r (k .trade .lots) row (l .lots), state-delivered (k .state) (l .state))
+
+-- a contract in another state that keeps its limits
+pub in-state-fit : (n : ℕ) (s : State) → fit-state s ≡ true → (k : Contract) → fit-contract k ≡ true → fit-contract (in-state n s k) ≡ true
+in-state-fit n s fit k h =
+    let moved : fit-contract (with-state s k) ≡ true = grind (arith, tells) in
+    fit-changed fit-contract (eqb (k .trade .contract) n) _ k moved h

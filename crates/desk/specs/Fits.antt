@@ -2,6 +2,8 @@
 use mathlib.Core.Bool.{Bool, true, _&&_}
 use mathlib.Core.List.{List, [], _∷_}
 use lib.Dec.{leb}
+use Rattle.std.specs.declared.option.Option.{Option}
+use Rattle.std.specs.declared.option.Option.the-variants.{Some, None}
 use Rattle.rules.specs.declared.rows.Row.{Row}
 use Rattle.rules.specs.declared.orders.LiveOrder.{LiveOrder}
 use Rattle.rules.specs.declared.contracts.State.{State}
@@ -17,6 +19,11 @@ fit-order o = leb (o .order .member) 63 && (leb (o .order .instrument) 15 && (le
 abbrev pub fit-state : State → Bool
 fit-state Unfunded = true
 fit-state (Funded kg paid) = leb kg 1000000000
+
+-- the state that an event leads to, or none
+abbrev pub fit-next : Option State → Bool
+fit-next None = true
+fit-next (Some s) = fit-state s
 
 abbrev pub fit-contract : Contract → Bool
 fit-contract k =

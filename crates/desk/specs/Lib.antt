@@ -1,3 +1,5 @@
 pub mod Fits
 pub mod Views
 pub mod Called
+pub mod Turns
+pub mod Meeting

@@ -1,3 +1,4 @@
 pub mod Judged
 pub mod Journals
 pub mod Fronts
+pub mod Entering

@@ -5,6 +5,7 @@ ghost use lib.ListN.{length};
 ghost use Rattle.std.specs.shelf.Lists.{sum};
 ghost use Rattle.keeper.specs.Meaning.{Judges, Meaning, limit, verdict, amount-at, Follows};
 ghost use Rattle.keeper.specs.declared.entries.Entry.{Entry};
+ghost use Rattle.keeper.specs.declared.entries.Entry.the-variants.{Transfer};
 use crate::entries::Entry;
 use crate::entries::KeeperFault;
 use crate::entries::LIMIT;
@@ -38,6 +39,40 @@ pub trait Keeper: Registers {
     fn post(&mut self, entry: Entry) -> Result<(), KeeperFault>
         ensures answer { λ r. ⌜ r ≡ verdict (Self·Registers .meaning (now (self .entry))) entry ⌝ }
         ensures follows { λ r. ⌜ Follows (Self·Registers .meaning (now (self .entry))) entry r (Self·Registers .meaning (now (self .exit))) ⌝ };
+}
+
+/// What a keeper has to say to a transfer; nothing is posted.
+pub fn vet_transfer<K: Registers>(
+    keeper: &K,
+    giver: usize,
+    receiver: usize,
+    amount: u64,
+) -> Result<(), KeeperFault>
+    ensures answer { λ r. ⌜ r ≡ verdict (meaning (now (keeper .entry))) (Transfer giver receiver amount) ⌝ }
+    ensures cases { λ r. ⌜ Judges (meaning (now (keeper .entry))) (Transfer giver receiver amount) r ⌝ }
+{
+    let held = keeper.amount(giver)?;
+    if receiver >= keeper.count() {
+        return Err(KeeperFault::NoRegister);
+    }
+    if amount == 0 || amount > LIMIT {
+        return Err(KeeperFault::BadAmount);
+    }
+    if giver == receiver {
+        return Err(KeeperFault::SameRegister);
+    }
+    if held < amount {
+        return Err(KeeperFault::TooLittle);
+    }
+    let entry = Entry::Transfer {
+        giver,
+        receiver,
+        amount,
+    };
+    if keeper.need(entry) > keeper.spare() {
+        return Err(KeeperFault::NoSpare);
+    }
+    Ok(())
 }
 
 /// What a keeper has to say to an entry, with all its amounts together at hand.
@@ -75,21 +110,7 @@ pub(crate) fn vet<K: Registers>(
             giver,
             receiver,
             amount,
-        } => {
-            let held = keeper.amount(giver)?;
-            if receiver >= keeper.count() {
-                return Err(KeeperFault::NoRegister);
-            }
-            if amount == 0 || amount > LIMIT {
-                return Err(KeeperFault::BadAmount);
-            }
-            if giver == receiver {
-                return Err(KeeperFault::SameRegister);
-            }
-            if held < amount {
-                return Err(KeeperFault::TooLittle);
-            }
-        }
+        } => return vet_transfer(keeper, giver, receiver, amount),
     }
     if keeper.need(entry) > keeper.spare() {
         return Err(KeeperFault::NoSpare);

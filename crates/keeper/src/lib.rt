@@ -11,6 +11,7 @@ pub use journal::JournalKeeping;
 pub use journal::JournalRegisters;
 pub use keepers::Keeper;
 pub use keepers::Registers;
+pub use keepers::vet_transfer;
 pub use table::TableKeeper;
 pub use table::TableKeeping;
 pub use table::TableRegisters;

@@ -1,3 +1,4 @@
 pub mod Amounts
 pub mod Allowing
 pub mod Shorts
+pub mod Turning

@@ -11,12 +11,12 @@ ghost use Rattle.rules.specs.declared.calls.Call.the-variants.{Deposit, Deposit
 ghost use Rattle.desk.specs.Called.{alone};
 ghost use Rattle.section.specs.Views.{Calls, ledger-of};
 use crate::book::Book;
+use crate::entering::account_register;
 use crate::book::TradingBook;
 use crate::entering::enter_goods;
 use crate::entering::enter_money;
-use crate::entering::goods_register;
 use crate::entering::held;
-use crate::entering::money_register;
+use crate::entering::stock_register;
 use crate::halves::HalfOfDay;
 use crate::halves::TradingHalf;
 use charge::ChargeRule;
@@ -49,7 +49,7 @@ impl<H: HalfOfDay, M: Keeper, G: Keeper, R: ChargeRule> Book<H, M, G, R> {
         if !is_amount(amount) {
             return Err(Refusal::BadValue);
         }
-        let register = money_register(member, account);
+        let register = account_register(member, account);
         let entry = Entry::Credit {
             receiver: register,
             amount,
@@ -94,7 +94,7 @@ impl<H: HalfOfDay, M: Keeper, G: Keeper, R: ChargeRule> Book<H, M, G, R> {
         ensures { λ r. ⌜ Calls (half (now (self .entry) .half)) M·Registers G·Registers R·ChargeRule (now (self .entry)) (DepositGoods member instrument kilograms) (alone r) (now (self .exit)) ⌝ }
     {
         self.check_goods(member, instrument, kilograms)?;
-        let register = goods_register(member, instrument);
+        let register = stock_register(member, instrument);
         let entry = Entry::Credit {
             receiver: register,
             amount: kilograms,
@@ -126,7 +126,7 @@ impl<M: Keeper, G: Keeper, R: ChargeRule> TradingBook<M, G, R> {
         ensures { λ r. ⌜ Calls trading M·Registers G·Registers R·ChargeRule (now (self .entry)) (Withdraw member account amount) (alone r) (now (self .exit)) ⌝ }
     {
         self.check_taking(member, account, amount)?;
-        let register = money_register(member, account);
+        let register = account_register(member, account);
         let entry = Entry::Debit {
             giver: register,
             amount,
@@ -141,13 +141,13 @@ impl<M: Keeper, G: Keeper, R: ChargeRule> TradingBook<M, G, R> {
     {
         self.check_taking(member, source, amount)?;
         let entry = Entry::Transfer {
-            giver: money_register(member, source),
-            receiver: money_register(member, source.other()),
+            giver: account_register(member, source),
+            receiver: account_register(member, source.other()),
             amount,
         };
         enter_money(&mut self.money, entry)?;
-        let position = held(&self.money, money_register(member, Account::Position));
-        let clearing = held(&self.money, money_register(member, Account::Clearing));
+        let position = held(&self.money, account_register(member, Account::Position));
+        let clearing = held(&self.money, account_register(member, Account::Clearing));
         Ok((position, clearing))
     }
 
@@ -159,7 +159,7 @@ impl<M: Keeper, G: Keeper, R: ChargeRule> TradingBook<M, G, R> {
         if self.free_goods(member, instrument) < kilograms as i64 {
             return Err(Refusal::FreeLimit);
         }
-        let register = goods_register(member, instrument);
+        let register = stock_register(member, instrument);
         let entry = Entry::Debit {
             giver: register,
             amount: kilograms,

@@ -6,6 +6,7 @@ mod entering;
 mod halves;
 mod limits;
 mod questions;
+mod session;
 mod trading;
 
 pub use book::Book;

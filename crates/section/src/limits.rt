@@ -5,9 +5,9 @@ ghost use lib.IntN.{_-ℤ_, pos};
 ghost use Rattle.rules.specs.Limits.{free-goods, free-money, known};
 ghost use Rattle.section.specs.Views.{ledger-of};
 use crate::book::Book;
-use crate::entering::goods_register;
+use crate::entering::account_register;
 use crate::entering::held;
-use crate::entering::money_register;
+use crate::entering::stock_register;
 use crate::halves::HalfOfDay;
 use charge::ChargeRule;
 use keeper::Keeper;
@@ -37,7 +37,7 @@ impl<H: HalfOfDay, M: Keeper, G: Keeper, R: ChargeRule> Book<H, M, G, R> {
         requires { ⌜ member ≤ 63 ⌝ }
         ensures { λ r. ⌜ r ≡ free-money (ledger-of (half (now (self .entry) .half)) M·Registers G·Registers R·ChargeRule (now (self .entry))) member account ⌝ }
     {
-        let amount = held(&self.money, money_register(member, account));
+        let amount = held(&self.money, account_register(member, account));
         let holds = match account {
             Account::Position => self.desk.position_holds(&self.rule, member),
             Account::Clearing => self.desk.clearing_holds(member),
@@ -51,7 +51,7 @@ impl<H: HalfOfDay, M: Keeper, G: Keeper, R: ChargeRule> Book<H, M, G, R> {
         requires instrument { ⌜ instrument ≤ 15 ⌝ }
         ensures { λ r. ⌜ r ≡ free-goods (ledger-of (half (now (self .entry) .half)) M·Registers G·Registers R·ChargeRule (now (self .entry))) member instrument ⌝ }
     {
-        let amount = held(&self.goods, goods_register(member, instrument));
+        let amount = held(&self.goods, stock_register(member, instrument));
         let holds = self.desk.goods_holds(member, instrument);
         difference(amount, holds)
     }

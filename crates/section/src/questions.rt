@@ -6,9 +6,9 @@ ghost use Rattle.rules.specs.Questions.{reply, standing};
 ghost use Rattle.rules.specs.declared.calls.Question.the-variants.{Stock, FreeGoods};
 ghost use Rattle.section.specs.Views.{ledger-of};
 use crate::book::Book;
-use crate::entering::goods_register;
+use crate::entering::account_register;
 use crate::entering::held;
-use crate::entering::money_register;
+use crate::entering::stock_register;
 use crate::halves::HalfOfDay;
 use charge::ChargeRule;
 use keeper::Keeper;
@@ -62,7 +62,7 @@ impl<H: HalfOfDay, M: Keeper, G: Keeper, R: ChargeRule> Book<H, M, G, R> {
                 if !self.knows(member) {
                     return Err(Refusal::UnknownMember);
                 }
-                let amount = held(&self.money, money_register(member, account));
+                let amount = held(&self.money, account_register(member, account));
                 Ok(Reply::Sum(amount))
             }
             Question::Stock { member, instrument } => self.ask_stock(member, instrument),
@@ -98,7 +98,7 @@ impl<H: HalfOfDay, M: Keeper, G: Keeper, R: ChargeRule> Book<H, M, G, R> {
         }
         match self.desk.row(instrument) {
             Some(_) => {
-                let amount = held(&self.goods, goods_register(member, instrument));
+                let amount = held(&self.goods, stock_register(member, instrument));
                 Ok(Reply::Sum(amount))
             }
             None => Err(Refusal::NoInstrument),
