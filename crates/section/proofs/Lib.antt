@@ -2,3 +2,4 @@ pub mod Amounts
 pub mod Allowing
 pub mod Shorts
 pub mod Turning
+pub mod Running

@@ -6,7 +6,10 @@ mod entering;
 mod halves;
 mod limits;
 mod questions;
+mod runs;
+mod section_book;
 mod session;
+mod taking;
 mod trading;
 
 pub use book::Book;
@@ -17,3 +20,5 @@ pub use halves::Session;
 pub use halves::SessionHalf;
 pub use halves::Trading;
 pub use halves::TradingHalf;
+pub use runs::replay;
+pub use section_book::SectionBook;
