@@ -1,5 +1,1 @@
-pub mod Amounts
-pub mod Allowing
-pub mod Shorts
-pub mod Turning
 pub mod Running

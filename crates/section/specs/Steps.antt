@@ -13,7 +13,7 @@ use Rattle.rules.specs.Limits.{session, trading}
 use Rattle.rules.specs.Runs.{Point, Posted, feed, made, next, outcome}
 use Rattle.section.specs.declared.section_book.SectionBook.{SectionBook}
 use Rattle.section.specs.declared.section_book.SectionBook.the-variants.{Trading, Session}
-use Rattle.section.specs.Views.{point-of}
+use Rattle.book.specs.Views.{point-of}
 
 -- what a book shows, in whichever half it is
 abbrev pub shows : {M G R : Type 0} → registers.Ghosts M → registers.Ghosts G → rule.Ghosts R → SectionBook M G R → Point

@@ -4,7 +4,7 @@ ghost use Rattle.std.specs.Of.Vec.{vec-items};
 ghost use Rattle.std.specs.Vec.{made};
 ghost use Rattle.rules.specs.Law.{Run-law, start};
 ghost use Rattle.section.specs.Steps.{shows};
-use crate::book::TradingBook;
+use book::TradingBook;
 use crate::section_book::SectionBook;
 use charge::ChargeRule;
 use keeper::Keeper;

@@ -1,6 +1,6 @@
 // The book in whichever half of the day it is.
-use crate::book::SessionBook;
-use crate::book::TradingBook;
+use book::SessionBook;
+use book::TradingBook;
 
 /// A section book that goes from half to half.
 #[derive(Drop)]

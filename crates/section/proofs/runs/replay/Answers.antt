@@ -10,7 +10,7 @@ use Rattle.rules.specs.Limits.{trading}
 use Rattle.rules.specs.Runs.{Point, Run, reached}
 use Rattle.law.proofs.Whole.{lawful-from}
 use Rattle.section.specs.Steps.{Stepped, shows}
-use Rattle.section.specs.Views.{point-of}
+use Rattle.book.specs.Views.{point-of}
 use Rattle.section.proofs.Running.{Ran, ran-none, ran-more}
 use Rattle.section.proofs.runs.replay.Needs as need
 

@@ -1,0 +1,4 @@
+pub mod Amounts
+pub mod Allowing
+pub mod Shorts
+pub mod Turning
