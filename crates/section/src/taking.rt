@@ -132,6 +132,7 @@ fn settle<M: Keeper, G: Keeper, R: ChargeRule>(
     }
 }
 
+/// What is told of a question.
 fn told_reply(r: Result<Reply, Refusal>) -> Told
     ensures { λ t. ⌜ t ≡ replied-as r ⌝ }
 {
@@ -142,13 +143,13 @@ fn told_reply(r: Result<Reply, Refusal>) -> Told
 }
 
 impl<M: Keeper, G: Keeper, R: ChargeRule> SectionBook<M, G, R> {
-    /// Answers a question.
-    fn ask(&self, question: Question) -> Told
-        ensures { λ t. ⌜ t ≡ replied-as (reply (shows M·Registers G·Registers R·ChargeRule (now (self .entry)) .ledger) question) ⌝ }
+    /// Answers a question; nothing changes.
+    pub fn ask(&self, question: Question) -> Result<Reply, Refusal>
+        ensures { λ r. ⌜ r ≡ reply (shows M·Registers G·Registers R·ChargeRule (now (self .entry)) .ledger) question ⌝ }
     {
         match self {
-            SectionBook::Trading(book) => told_reply(book.ask(question)),
-            SectionBook::Session(book) => told_reply(book.ask(question)),
+            SectionBook::Trading(book) => book.ask(question),
+            SectionBook::Session(book) => book.ask(question),
         }
     }
 
@@ -158,7 +159,7 @@ impl<M: Keeper, G: Keeper, R: ChargeRule> SectionBook<M, G, R> {
     {
         match request {
             Request::Ask(question) => {
-                let told = self.ask(question);
+                let told = told_reply(self.ask(question));
                 (told, self)
             }
             Request::Make(call) => match self {

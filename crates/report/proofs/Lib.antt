@@ -1,0 +1,3 @@
+pub mod Notings
+pub mod Picking
+pub mod Reporting
