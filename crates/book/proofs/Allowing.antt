@@ -80,7 +80,6 @@ with-desk p d =
       goods = p .goods;
     }
 
--- a trade is the desk's alone
-pub executed : (p : Point) (t : Trade) (r : Result (ℕ × ℕ) Refusal) (d : Desk) → Desk-called (holding (p .ledger .charge) (p .ledger .desk)) (Execute t) r d → Called p (Execute t) r (with-desk p d)
-executed p t (Ok v) d h = (allowed-ok (checks (p .ledger) (Execute t)) None (h .0), h .1, ap (λ x. with-desk p x .ledger) (h .2), refl, refl)
-executed p t (Err e) d h = (allowed-err (checks (p .ledger) (Execute t)) None e (h .0), ap (with-desk p) (h .1))
+-- a trade that the desk refuses
+pub unexecuted : (p : Point) (t : Trade) (e : Refusal) (d : Desk) → Desk-called (holding (p .ledger .charge) (p .ledger .desk)) (Execute t) (Err e) d → (r : Result (ℕ × ℕ) Refusal) → r ≡ Err e → Called p (Execute t) r (with-desk p d)
+unexecuted p t e d h r is = rw is (allowed-err (checks (p .ledger) (Execute t)) None e (h .0), ap (with-desk p) (h .1))

@@ -51,6 +51,7 @@ pub moves-refused : (p : Point) (n : ℕ) (e : Event) (pay ship : Option Entry) 
     → keepers-say (p .ledger .money) (p .ledger .goods) (feed p) pay ship ≡ Some d → m ≡ p .money → g ≡ p .goods
     → (r : Result (ℕ × ℕ) Refusal) → r ≡ Err d → Called p (Settle n e) r (with-keepers p m g)
 moves-refused p n e pay ship d m g whole ok is-pay is-ship say em eg r is =
-    rw is
-    ( allowed-ok (checks (p .ledger) (Settle n e)) _ ok ∙ ap₂ (keepers-say (p .ledger .money) (p .ledger .goods) (feed p)) (sym is-pay) (sym is-ship) ∙ say
-    , ap₂ (with-keepers p) em eg ∙ whole )
+    rw is (
+      allowed-ok (checks (p .ledger) (Settle n e)) _ ok ∙ ap₂ (keepers-say (p .ledger .money) (p .ledger .goods) (feed p)) (sym is-pay) (sym is-ship) ∙ say,
+      ap₂ (with-keepers p) em eg ∙ whole,
+    )

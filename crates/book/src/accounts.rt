@@ -11,8 +11,8 @@ ghost use Rattle.rules.specs.declared.calls.Call.the-variants.{Deposit, Deposit
 ghost use Rattle.desk.specs.Called.{alone};
 ghost use Rattle.book.specs.Views.{Calls, ledger-of};
 use crate::book::Book;
-use crate::entering::account_register;
 use crate::book::TradingBook;
+use crate::entering::account_register;
 use crate::entering::enter_goods;
 use crate::entering::enter_money;
 use crate::entering::held;
@@ -49,13 +49,9 @@ impl<H: HalfOfDay, M: Keeper, G: Keeper, R: ChargeRule> Book<H, M, G, R> {
         if !is_amount(amount) {
             return Err(Refusal::BadValue);
         }
-        let register = account_register(member, account);
-        let entry = Entry::Credit {
-            receiver: register,
-            amount,
-        };
-        enter_money(&mut self.money, entry)?;
-        Ok(held(&self.money, register))
+        let receiver = account_register(member, account);
+        enter_money(&mut self.money, Entry::Credit { receiver, amount })?;
+        Ok(held(&self.money, receiver))
     }
 
     /// Whether an instrument's goods are kept in a warehouse.
@@ -90,17 +86,22 @@ impl<H: HalfOfDay, M: Keeper, G: Keeper, R: ChargeRule> Book<H, M, G, R> {
     }
 
     /// Brings goods to a member's register of an instrument, and answers the new amount.
-    pub fn deposit_goods(&mut self, member: u64, instrument: u64, kilograms: u64) -> Result<u64, Refusal>
+    pub fn deposit_goods(
+        &mut self,
+        member: u64,
+        instrument: u64,
+        kilograms: u64,
+    ) -> Result<u64, Refusal>
         ensures { λ r. ⌜ Calls (half (now (self .entry) .half)) M·Registers G·Registers R·ChargeRule (now (self .entry)) (DepositGoods member instrument kilograms) (alone r) (now (self .exit)) ⌝ }
     {
         self.check_goods(member, instrument, kilograms)?;
-        let register = stock_register(member, instrument);
+        let receiver = stock_register(member, instrument);
         let entry = Entry::Credit {
-            receiver: register,
+            receiver,
             amount: kilograms,
         };
         enter_goods(&mut self.goods, entry)?;
-        Ok(held(&self.goods, register))
+        Ok(held(&self.goods, receiver))
     }
 }
 
@@ -126,17 +127,18 @@ impl<M: Keeper, G: Keeper, R: ChargeRule> TradingBook<M, G, R> {
         ensures { λ r. ⌜ Calls trading M·Registers G·Registers R·ChargeRule (now (self .entry)) (Withdraw member account amount) (alone r) (now (self .exit)) ⌝ }
     {
         self.check_taking(member, account, amount)?;
-        let register = account_register(member, account);
-        let entry = Entry::Debit {
-            giver: register,
-            amount,
-        };
-        enter_money(&mut self.money, entry)?;
-        Ok(held(&self.money, register))
+        let giver = account_register(member, account);
+        enter_money(&mut self.money, Entry::Debit { giver, amount })?;
+        Ok(held(&self.money, giver))
     }
 
     /// Moves money between a member's two accounts, and answers what is then in position and in clearing.
-    pub fn shift(&mut self, member: u64, source: Account, amount: u64) -> Result<(u64, u64), Refusal>
+    pub fn shift(
+        &mut self,
+        member: u64,
+        source: Account,
+        amount: u64,
+    ) -> Result<(u64, u64), Refusal>
         ensures { λ r. ⌜ Calls trading M·Registers G·Registers R·ChargeRule (now (self .entry)) (Shift member source amount) r (now (self .exit)) ⌝ }
     {
         self.check_taking(member, source, amount)?;
@@ -152,19 +154,24 @@ impl<M: Keeper, G: Keeper, R: ChargeRule> TradingBook<M, G, R> {
     }
 
     /// Takes goods from a member's register, and answers the new amount.
-    pub fn withdraw_goods(&mut self, member: u64, instrument: u64, kilograms: u64) -> Result<u64, Refusal>
+    pub fn withdraw_goods(
+        &mut self,
+        member: u64,
+        instrument: u64,
+        kilograms: u64,
+    ) -> Result<u64, Refusal>
         ensures { λ r. ⌜ Calls trading M·Registers G·Registers R·ChargeRule (now (self .entry)) (WithdrawGoods member instrument kilograms) (alone r) (now (self .exit)) ⌝ }
     {
         self.check_goods(member, instrument, kilograms)?;
         if self.free_goods(member, instrument) < kilograms as i64 {
             return Err(Refusal::FreeLimit);
         }
-        let register = stock_register(member, instrument);
+        let giver = stock_register(member, instrument);
         let entry = Entry::Debit {
-            giver: register,
+            giver,
             amount: kilograms,
         };
         enter_goods(&mut self.goods, entry)?;
-        Ok(held(&self.goods, register))
+        Ok(held(&self.goods, giver))
     }
 }

@@ -21,7 +21,13 @@ use std::alloc::Global;
 
 impl<M: Keeper + Drop, G: Keeper + Drop, R: ChargeRule + Drop> TradingBook<M, G, R> {
     /// Opens on day 0 with the rows that can be used. It refuses no row; only memory can be wanting.
-    pub fn open(heap: Global, rows: &[Row], money: M, goods: G, rule: R) -> Result<TradingBook<M, G, R>, AllocError>
+    pub fn open(
+        heap: Global,
+        rows: &[Row],
+        money: M,
+        goods: G,
+        rule: R,
+    ) -> Result<TradingBook<M, G, R>, AllocError>
         ensures { λ r. ⌜ made r (λ b. point-of trading M·Registers G·Registers R·ChargeRule b ≡ opened (start M·Registers G·Registers R·ChargeRule (now (rows .entry)) money goods rule)) ⌝ }
     {
         let desk = Desk::open(heap, &rule, rows)?;

@@ -25,6 +25,7 @@ pub trait ChargeRule {
 
 /// The highest price of a lot, and the most lots, that are charged for.
 const HIGHEST_PRICE: u64 = 1_000_000_000;
+
 const MOST_LOTS: u64 = 10_000;
 
 /// Whether rate, price and lots are within their limits.

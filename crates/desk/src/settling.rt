@@ -1,10 +1,11 @@
 // What a contract does at funding, delivery and default.
 ghost use mathlib.Core.Bool.{true};
 ghost use mathlib.Core.Path.{_≡_};
-ghost use Prim.Native.Nat.{_≤_};
+ghost use Prim.Native.Nat.{_+_, _≤_};
 ghost use Rattle.std.specs.Options.{mapped};
 ghost use Rattle.rules.specs.Entries.{transfer};
-ghost use Rattle.rules.specs.Holds.{is-funded, payment-to-date, payments};
+ghost use Rattle.rules.specs.Holds.{delivered, is-funded, payment-to-date, payments};
+ghost use Rattle.rules.specs.Settling.{counted};
 ghost use Rattle.rules.specs.Terms.{clearing-register, goods-register, warehoused};
 ghost use Rattle.rules.specs.declared.contracts.Event.the-variants.{Delivery, Funding};
 ghost use Rattle.rules.specs.declared.contracts.State.the-variants.{Unfunded};
@@ -90,13 +91,20 @@ fn funded(contract: &Contract, at: &Circumstances) -> Result<Turn, Refusal>
     })
 }
 
+/// What a delivery counts: at most the kilograms open.
+fn counted(contract: &Contract, row: &Row, reported: u64) -> u64
+    requires fit { ⌜ fit-contract (now contract) ≡ true ⌝ }
+    requires row { ⌜ fit-row (now row) ≡ true ⌝ }
+    ensures value { λ r. ⌜ r ≡ counted (now (row .entry)) (now (contract .entry)) reported ⌝ }
+    ensures bound { λ r. ⌜ delivered (now (contract .entry) .state) + r ≤ 1000000000 ⌝ }
+{
+    let full = contract.trade.lots * row.weight;
+    reported.min(full.saturating_sub(delivered(contract)))
+}
+
 /// The turn of a funded contract at a delivery: at most the kilograms open are counted, and paid for as all so far
 /// less what was paid before.
-fn delivered_more(
-    contract: &Contract,
-    at: &Circumstances,
-    reported: u64,
-) -> Result<Turn, Refusal>
+fn delivered_more(contract: &Contract, at: &Circumstances, reported: u64) -> Result<Turn, Refusal>
     requires fit { ⌜ fit-contract (now contract) ≡ true ⌝ }
     requires row { ⌜ fit-row (now at .row) ≡ true ⌝ }
     requires funded { ⌜ is-funded (now contract .state) ≡ true ⌝ }
@@ -110,9 +118,8 @@ fn delivered_more(
         return Err(Refusal::WrongDay);
     }
     let full = contract.trade.lots * at.row.weight;
-    let before = delivered(contract);
-    let counted = reported.min(full.saturating_sub(before));
-    let kilograms = before + counted;
+    let counted = counted(contract, &at.row, reported);
+    let kilograms = delivered(contract) + counted;
     let paid = payments(contract);
     let payment = payment_to_date(&at.row, contract.trade.price, kilograms).saturating_sub(paid);
     let state = if full <= kilograms {

@@ -123,7 +123,12 @@ impl Desk {
     }
 
     /// Sets the rate of an instrument. Every hold follows it.
-    pub fn rerate<R: ChargeRule>(&mut self, rule: &R, instrument: u64, rate: u64) -> Result<(), Refusal>
+    pub fn rerate<R: ChargeRule>(
+        &mut self,
+        rule: &R,
+        instrument: u64,
+        rate: u64,
+    ) -> Result<(), Refusal>
         ensures { λ r. ⌜ Cases r (λ _. (allowed (rating-checks (R·ChargeRule .top (now (rule .entry))) (desk-of trading (now (self .entry))) instrument rate) ≡ Ok tt) × (desk-of trading (now (self .exit)) ≡ with-rows (desk-of trading (now (self .entry))) (map (rerated instrument rate) (vec-items (now (self .entry) .rows))))) (λ e. (allowed (rating-checks (R·ChargeRule .top (now (rule .entry))) (desk-of trading (now (self .entry))) instrument rate) ≡ Err e) × (desk-of trading (now (self .exit)) ≡ desk-of trading (now (self .entry)))) ⌝ }
     {
         if self.row(instrument).is_none() {

@@ -2,7 +2,7 @@
 use mathlib.Core.Path.{_≡_, refl, sym, ap, subst, _∙_}
 use mathlib.Core.Bool.{Bool, true, false, cond}
 use mathlib.Core.Logic.{_⊎_, inl, inr, ⊎-elim}
-use mathlib.Core.List.{List, [], _∷_, _++_}
+use mathlib.Core.List.{List}
 use Prim.Native.Nat.{ℕ, _+_, _-_, _*_, _^_, _≤_, _<_}
 use native.Mathlib.Omega.{arith}
 use lib.ListN.{length, getD, take, length-take}
@@ -18,8 +18,7 @@ use Rattle.std.proofs.shelf.Tests.{cases-lt, and-from, and-parts, or-left, or-r
 use Rattle.std.specs.declared.option.Option.{Option}
 use Rattle.std.specs.declared.option.Option.the-variants.{Some, None}
 use Rattle.std.specs.shelf.Text.{allDigits}
-use Rattle.fields.specs.Forms.{is-numeral, number-in}
-use Rattle.fields.specs.Forms.{Short, Reads-number}
+use Rattle.fields.specs.Forms.{Short, is-numeral, number-in, Reads-number}
 
 own : Numerals (Digits 10) (value 10)
 own = numerals-by-value _ tells-digits
@@ -47,9 +46,9 @@ not-padded bs z l n h e =
 pub not-mixed : (bs : List ℕ) (i : ℕ) → i < length bs → (In 48 57 (getD bs i 0) → ⊥) → (n : ℕ) → Short n → bs ≡ decimal n → ⊥
 not-mixed bs i l out n h e = out (subst (λ ds. (k : ℕ) → k < length ds → In 48 57 (getD ds k 0)) (sym e) (digits-decimal places n (omega arith)) i l)
 
--- the digits before i
-pub sofar : (bs : List ℕ) (i : ℕ) → i ≤ 15 → Digits 10 (take i bs) → value 10 (take i bs) < 10 ^ 15
-sofar bs i few ds = value-short own (take i bs) 15 ds (omega (arith, length-take i bs))
+-- the digits before i; one more still fits 64 bits
+pub sofar : (bs : List ℕ) (i : ℕ) → i ≤ 18 → Digits 10 (take i bs) → value 10 (take i bs) < 10 ^ 18
+sofar bs i few ds = value-short own (take i bs) 18 ds (omega (arith, length-take i bs))
 
 digit : (c : ℕ) → In 48 57 c → digitValue c ≡ c - 48
 digit c h = grind (arith, ways.tells)
@@ -102,10 +101,6 @@ given-by bs n false s e = let z : _≡_ {A = ℕ} 0 1 = cc in absurd (omega arit
 pub number-in-gives : (bs : List ℕ) (n : ℕ) → number-in bs ≡ Some n → Short n × (bs ≡ decimal n)
 unfolding number-in
 number-in-gives bs n e = given-by bs n (is-numeral bs) refl e
-
-pub reads-number-in : (bs : List ℕ) (o : Option ℕ) → number-in bs ≡ o → Reads-number bs o
-reads-number-in bs (Some n) e = number-in-gives bs n e
-reads-number-in bs None e = λ n h d. let z : _≡_ {A = ℕ} 0 1 = cc (e, ap number-in d, number-in-decimal n h) in omega arith
 
 same-reading : (bs : List ℕ) (r o : Option ℕ) → Reads-number bs r → number-in bs ≡ o → r ≡ o
 same-reading bs (Some n) o h e = sym (ap number-in (h .1) ∙ number-in-decimal n (h .0)) ∙ e

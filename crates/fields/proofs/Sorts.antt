@@ -19,6 +19,7 @@ use Rattle.fields.specs.Forms.{a-last-day, number-in, value-in}
 use Rattle.fields.specs.Sorting.{is-sorted, field-text}
 use Rattle.fields.proofs.Numbers.{number-is, not-mixed, not-empty}
 
+-- a field of another sort is no number
 pub no-number : (f : Field) → is-sorted f ≡ true → ((t : RefT (List ℕ)) → f ≡ Number t → ⊥) → number-in (field-text f) ≡ None
 no-number (Word t) s ne =
     let p = and-parts _ _ s in

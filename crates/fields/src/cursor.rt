@@ -59,30 +59,35 @@ impl<'a> Fields<'a> {
         }
     }
 
+    /// Reads the first field as a number.
     pub fn number(&mut self) -> Result<u64, LineFault>
         ensures { λ r. ⌜ Takes a-number (now (self .entry)) r (now (self .exit)) ⌝ }
     {
         self.next().number()
     }
 
+    /// Reads the first field as an account.
     pub fn account(&mut self) -> Result<Account, LineFault>
         ensures { λ r. ⌜ Takes an-account (now (self .entry)) r (now (self .exit)) ⌝ }
     {
         self.next().account()
     }
 
+    /// Reads the first field as a side.
     pub fn side(&mut self) -> Result<Side, LineFault>
         ensures { λ r. ⌜ Takes a-side (now (self .entry)) r (now (self .exit)) ⌝ }
     {
         self.next().side()
     }
 
+    /// Reads the first field as a kind.
     pub fn kind(&mut self) -> Result<Kind, LineFault>
         ensures { λ r. ⌜ Takes a-kind (now (self .entry)) r (now (self .exit)) ⌝ }
     {
         self.next().kind()
     }
 
+    /// Reads the first field as a last day, which may be left out.
     pub fn last_day(&mut self) -> Result<Option<u64>, LineFault>
         ensures { λ r. ⌜ Takes a-last-day (now (self .entry)) r (now (self .exit)) ⌝ }
     {

@@ -13,6 +13,7 @@ pub struct Lines<'a> {
 }
 
 impl<'a> Lines<'a> {
+    /// The lines of a whole sheet.
     pub fn of(sheet: &'a [u8]) -> Lines<'a>
         ensures all { λ r. ⌜ lines-left r ≡ lines-of (now (sheet .entry)) ⌝ }
         ensures law { λ _. ⌜ Lines-law ⌝ }

@@ -76,11 +76,7 @@ pub fn vet_transfer<K: Registers>(
 }
 
 /// What a keeper has to say to an entry, with all its amounts together at hand.
-pub(crate) fn vet<K: Registers>(
-    keeper: &K,
-    total: u64,
-    entry: Entry,
-) -> Result<(), KeeperFault>
+pub(crate) fn vet<K: Registers>(keeper: &K, total: u64, entry: Entry) -> Result<(), KeeperFault>
     requires { ⌜ total ≡ sum (meaning (now keeper) .amounts) ⌝ }
     ensures answer { λ r. ⌜ r ≡ verdict (meaning (now (keeper .entry))) entry ⌝ }
     ensures cases { λ r. ⌜ Judges (meaning (now (keeper .entry))) entry r ⌝ }

@@ -53,7 +53,10 @@ pub impl fmt::Display for ReportLine as ReportLineDisplay {
                 clearing,
                 freeposition,
                 freeclearing,
-            } => write!(f, "M,{member},{position},{clearing},{freeposition},{freeclearing}"),
+            } => write!(
+                f,
+                "M,{member},{position},{clearing},{freeposition},{freeclearing}"
+            ),
         }
     }
 }

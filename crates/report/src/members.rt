@@ -18,7 +18,11 @@ use section::SectionBook;
 use std::alloc::AllocError;
 
 /// A known member's amount.
-fn amount<M: Keeper, G: Keeper, R: ChargeRule>(book: &SectionBook<M, G, R>, member: u64, account: Account) -> Option<u64>
+fn amount<M: Keeper, G: Keeper, R: ChargeRule>(
+    book: &SectionBook<M, G, R>,
+    member: u64,
+    account: Account,
+) -> Option<u64>
     ensures { λ r. ⌜ r ≡ cond (known (shows M·Registers G·Registers R·ChargeRule (now (book .entry)) .ledger) member) (Some (amount (shows M·Registers G·Registers R·ChargeRule (now (book .entry)) .ledger) member account)) None ⌝ }
 {
     match book.ask(Question::Amount { member, account }) {
@@ -28,7 +32,11 @@ fn amount<M: Keeper, G: Keeper, R: ChargeRule>(book: &SectionBook<M, G, R>, memb
 }
 
 /// A known member's free limit.
-fn free<M: Keeper, G: Keeper, R: ChargeRule>(book: &SectionBook<M, G, R>, member: u64, account: Account) -> Option<i64>
+fn free<M: Keeper, G: Keeper, R: ChargeRule>(
+    book: &SectionBook<M, G, R>,
+    member: u64,
+    account: Account,
+) -> Option<i64>
     ensures { λ r. ⌜ r ≡ cond (known (shows M·Registers G·Registers R·ChargeRule (now (book .entry)) .ledger) member) (Some (free-money (shows M·Registers G·Registers R·ChargeRule (now (book .entry)) .ledger) member account)) None ⌝ }
 {
     match book.ask(Question::FreeMoney { member, account }) {
@@ -38,7 +46,10 @@ fn free<M: Keeper, G: Keeper, R: ChargeRule>(book: &SectionBook<M, G, R>, member
 }
 
 /// The line of a known member with money or a free position limit that is not 0.
-pub(crate) fn member_line<M: Keeper, G: Keeper, R: ChargeRule>(book: &SectionBook<M, G, R>, member: u64) -> Option<ReportLine>
+pub(crate) fn member_line<M: Keeper, G: Keeper, R: ChargeRule>(
+    book: &SectionBook<M, G, R>,
+    member: u64,
+) -> Option<ReportLine>
     ensures { λ r. ⌜ r ≡ cond (is-listed (shows M·Registers G·Registers R·ChargeRule (now (book .entry)) .ledger) member) (Some (member-of (shows M·Registers G·Registers R·ChargeRule (now (book .entry)) .ledger) member)) None ⌝ }
 {
     let position = amount(book, member, Account::Position)?;

@@ -103,7 +103,11 @@ pub(crate) impl Picks<Request> for Calls as PicksCalls {
 }
 
 /// All that is picked out of the lines, in their order.
-pub(crate) fn collect<T: Copy, P: Picks<T>>(heap: Global, notes: &[Result<Line, SheetFault>], picks: &P) -> Result<Vec<T>, AllocError>
+pub(crate) fn collect<T: Copy, P: Picks<T>>(
+    heap: Global,
+    notes: &[Result<Line, SheetFault>],
+    picks: &P,
+) -> Result<Vec<T>, AllocError>
     ensures { λ r. ⌜ made r (λ v. vec-items v ≡ joined (P·Picks .picked (now (picks .entry))) (now (notes .entry))) ⌝ }
 {
     let mut out = Vec::new(heap);

@@ -155,7 +155,14 @@ pub fn run_sheet<M: Keeper + Drop, G: Keeper + Drop, R: ChargeRule + Drop>(
     let notes = read_sheet(heap, sheet)?;
     let rows = collect(heap, notes.lines.as_slice(), &Rows)?;
     let requests = collect(heap, notes.lines.as_slice(), &Calls)?;
-    let (told, book) = replay(heap, rows.as_slice(), money, goods, rule, requests.as_slice())?;
+    let (told, book) = replay(
+        heap,
+        rows.as_slice(),
+        money,
+        goods,
+        rule,
+        requests.as_slice(),
+    )?;
     let mut report = report_lines(heap, notes.lines.as_slice(), told.as_slice())?;
     if notes.opened {
         report_members(&mut report, &book)?;

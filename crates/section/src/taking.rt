@@ -7,11 +7,11 @@ ghost use Rattle.rules.specs.Runs.{replied-as};
 ghost use Rattle.desk.specs.Called.{alone};
 ghost use Rattle.section.specs.Steps.{Stepped, shows, told-of};
 ghost use Rattle.book.specs.Views.{point-of};
-use book::SessionBook;
-use book::TradingBook;
-use book::SessionHalf;
-use book::TradingHalf;
 use crate::section_book::SectionBook;
+use book::SessionBook;
+use book::SessionHalf;
+use book::TradingBook;
+use book::TradingHalf;
 use charge::ChargeRule;
 use keeper::Keeper;
 use rules::calls::Call;
@@ -50,23 +50,43 @@ fn trade<M: Keeper, G: Keeper, R: ChargeRule>(
     ensures { λ r. ⌜ Stepped (point-of trading M·Registers G·Registers R·ChargeRule book) (Make call) (r .0) (shows M·Registers G·Registers R·ChargeRule (r .1)) ⌝ }
 {
     match call {
-        Call::Deposit { member, account, amount } => {
+        Call::Deposit {
+            member,
+            account,
+            amount,
+        } => {
             let r = book.deposit(member, account, amount);
             (told_one(r), SectionBook::Trading(book))
         }
-        Call::DepositGoods { member, instrument, kilograms } => {
+        Call::DepositGoods {
+            member,
+            instrument,
+            kilograms,
+        } => {
             let r = book.deposit_goods(member, instrument, kilograms);
             (told_one(r), SectionBook::Trading(book))
         }
-        Call::Withdraw { member, account, amount } => {
+        Call::Withdraw {
+            member,
+            account,
+            amount,
+        } => {
             let r = book.withdraw(member, account, amount);
             (told_one(r), SectionBook::Trading(book))
         }
-        Call::Shift { member, source, amount } => {
+        Call::Shift {
+            member,
+            source,
+            amount,
+        } => {
             let r = book.shift(member, source, amount);
             (told_two(r), SectionBook::Trading(book))
         }
-        Call::WithdrawGoods { member, instrument, kilograms } => {
+        Call::WithdrawGoods {
+            member,
+            instrument,
+            kilograms,
+        } => {
             let r = book.withdraw_goods(member, instrument, kilograms);
             (told_one(r), SectionBook::Trading(book))
         }
@@ -88,7 +108,10 @@ fn trade<M: Keeper, G: Keeper, R: ChargeRule>(
         }
         Call::EndTrading => {
             let (next, first) = book.end_trading();
-            (Told::Accepted { first, second: 0 }, SectionBook::Session(next))
+            (
+                Told::Accepted { first, second: 0 },
+                SectionBook::Session(next),
+            )
         }
         Call::Settle { .. } | Call::EndSession => (Told::Misplaced, SectionBook::Trading(book)),
     }
@@ -102,11 +125,19 @@ fn settle<M: Keeper, G: Keeper, R: ChargeRule>(
     ensures { λ r. ⌜ Stepped (point-of session M·Registers G·Registers R·ChargeRule book) (Make call) (r .0) (shows M·Registers G·Registers R·ChargeRule (r .1)) ⌝ }
 {
     match call {
-        Call::Deposit { member, account, amount } => {
+        Call::Deposit {
+            member,
+            account,
+            amount,
+        } => {
             let r = book.deposit(member, account, amount);
             (told_one(r), SectionBook::Session(book))
         }
-        Call::DepositGoods { member, instrument, kilograms } => {
+        Call::DepositGoods {
+            member,
+            instrument,
+            kilograms,
+        } => {
             let r = book.deposit_goods(member, instrument, kilograms);
             (told_one(r), SectionBook::Session(book))
         }
@@ -125,7 +156,10 @@ fn settle<M: Keeper, G: Keeper, R: ChargeRule>(
             }
         },
         Call::EndSession => {
-            let told = Told::Accepted { first: 0, second: 0 };
+            let told = Told::Accepted {
+                first: 0,
+                second: 0,
+            };
             (told, SectionBook::Trading(book.end_session()))
         }
         _ => (Told::Misplaced, SectionBook::Session(book)),

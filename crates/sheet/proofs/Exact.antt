@@ -1,9 +1,9 @@
 -- A line is read from its text and from no other, and what is not read has the fault that is told.
 use mathlib.Core.Path.{_≡_, refl, sym, ap, subst, _∙_}
-use mathlib.Core.Bool.{Bool, true, false, cond, _&&_}
+use mathlib.Core.Bool.{Bool, true, false, cond}
 use mathlib.Core.Logic.{inl, inr}
 use mathlib.Core.List.{List, [], _∷_}
-use Prim.Native.Nat.{ℕ, suc, _+_, _<_, _≤_}
+use Prim.Native.Nat.{ℕ, _+_, _≤_}
 use native.Mathlib.Omega.{arith}
 use lib.Dec.{eqb, ltb, lit≤}
 use lib.ListN.{length, getD, drop}
@@ -12,7 +12,7 @@ use Rattle.std.specs.declared.option.Option.the-variants.{Some, None}
 use Rattle.std.specs.declared.result.Result.{Result}
 use Rattle.std.specs.declared.result.Result.the-variants.{Ok, Err}
 use Rattle.std.proofs.shelf.Lists.{drop-all, drop-more}
-use Rattle.std.proofs.shelf.Tests.{and-from, and-parts, cond-true, cond-false, eq-eqb, eqb-true, eqb-false, false≢true, le-ltb, ltb-true, ltb-false}
+use Rattle.std.proofs.shelf.Tests.{and-from, and-parts, cond-true, cond-false, eq-eqb, eqb-true, eqb-false, le-ltb, ltb-true, ltb-false}
 use Rattle.rules.specs.declared.calls.Call.the-variants.{Deposit, Withdraw, Shift, DepositGoods, WithdrawGoods, Place, Cancel, Execute, Rerate, EndTrading, Settle, EndSession}
 use Rattle.rules.specs.declared.contracts.Event.the-variants.{Funding, Delivery, Default}
 use Rattle.sheet.specs.declared.outcome.Line.{Line}

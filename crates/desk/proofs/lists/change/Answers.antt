@@ -14,8 +14,8 @@ returns g c =
     let f = g .C·Changes .changed (c .args .changes .now) in
     record {
       items = refilled-is (c .args .items .now) (c .loop-item .item-items) (c .loop-item .kept .item-items ∙ c .deref-mut-item-items .ensures .len)
-        ∙ map-all f (c .deref-mut-item-items .result .now) (c .loop-item .item-items) (c .loop-item .item-index) (c .loop-item .kept .item-items) (c .loop-item .inv) (c .loop-item-test .left)
-        ∙ ap (map f) (c .deref-mut-item-items .ensures .value);
+          ∙ map-all f (c .deref-mut-item-items .result .now) (c .loop-item .item-items) (c .loop-item .item-index) (c .loop-item .kept .item-items) (c .loop-item .inv) (c .loop-item-test .left)
+          ∙ ap (map f) (c .deref-mut-item-items .ensures .value);
       len = refl;
       capacity = refl;
     }

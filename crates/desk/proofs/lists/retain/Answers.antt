@@ -11,8 +11,9 @@ pub loop-i-again : need.loop-i-again
 loop-i-again g c =
     let inside : c .loop-i .i < length (vec-items (c .loop-i .items)) = omega (arith, c .loop-i .inv .1, c .loop-i .items .ok .0) in
     elim (c .if-keeps .came) [
-      then-keeps w ↦ rw (w .items-is, w .k-is) (keeping-more-set (c .loop-i .inv .0) inside (sym (c .keeps .ensures) ∙ w .if-keeps .taken) (c .index .ensures), c .loop-i .inv .1, c .loop-i .inv .2)
-    | else-keeps w ↦ rw (w .items-is, w .k-is) (keeping-more-no (c .loop-i .inv .0) inside (sym (c .keeps .ensures) ∙ w .if-keeps .left) (c .index .ensures), c .loop-i .inv .1, c .loop-i .inv .2) ]
+      | then-keeps w ↦ rw (w .items-is, w .k-is) (keeping-more-set (c .loop-i .inv .0) inside (sym (c .keeps .ensures) ∙ w .if-keeps .taken) (c .index .ensures), c .loop-i .inv .1, c .loop-i .inv .2)
+      | else-keeps w ↦ rw (w .items-is, w .k-is) (keeping-more-no (c .loop-i .inv .0) inside (sym (c .keeps .ensures) ∙ w .if-keeps .left) (c .index .ensures), c .loop-i .inv .1, c .loop-i .inv .2)
+    ]
 
 pub returns : need.returns
 returns g c =

@@ -18,20 +18,22 @@ loop-row-again c =
     let rows = c .args .rows .now in
     elim (c .if-is-admitted .came) [
       | then-is-admitted w ↦
-        let test = sym (c .is-admitted .ensures) ∙ w .if-is-admitted .taken in
-        let pushed = w .push-reserved .ensures in
-        rw (w .listed-is)
-        ( omega (arith, pushed .len, inv .0)
-        , omega (arith, pushed .capacity, inv .1)
-        , in-force-yes (c .args .top) rows (c .loop-row .row-index) _ (c .loop-row-test .taken) _ _ (inv .2) (c .as-slice .ensures .value) test _ (pushed .items)
-        , listed-fit (c .args .top) rows (c .loop-row .row-index) _ (c .loop-row-test .taken) _ _ (inv .2) (c .as-slice .ensures .value) test (inv .3) _ (pushed .items) )
+          let test = sym (c .is-admitted .ensures) ∙ w .if-is-admitted .taken in
+          let pushed = w .push-reserved .ensures in
+          rw (w .listed-is) (
+            omega (arith, pushed .len, inv .0),
+            omega (arith, pushed .capacity, inv .1),
+            in-force-yes (c .args .top) rows (c .loop-row .row-index) _ (c .loop-row-test .taken) _ _ (inv .2) (c .as-slice .ensures .value) test _ (pushed .items),
+            listed-fit (c .args .top) rows (c .loop-row .row-index) _ (c .loop-row-test .taken) _ _ (inv .2) (c .as-slice .ensures .value) test (inv .3) _ (pushed .items),
+          )
       | else-is-admitted w ↦
-        let test = sym (c .is-admitted .ensures) ∙ w .if-is-admitted .left in
-        rw (w .listed-is)
-        ( omega (arith, inv .0)
-        , inv .1
-        , in-force-no (c .args .top) rows (c .loop-row .row-index) _ (c .loop-row-test .taken) _ _ (inv .2) (c .as-slice .ensures .value) test
-        , inv .3 )
+          let test = sym (c .is-admitted .ensures) ∙ w .if-is-admitted .left in
+          rw (w .listed-is) (
+            omega (arith, inv .0),
+            inv .1,
+            in-force-no (c .args .top) rows (c .loop-row .row-index) _ (c .loop-row-test .taken) _ _ (inv .2) (c .as-slice .ensures .value) test,
+            inv .3,
+          )
     ]
 
 pub returns : need.returns

@@ -13,9 +13,10 @@ pub add-sum : need.add-sum
 add-sum g c = omega (arith, c .pre .few, c .taken-sum .ensures .bound, c .loop-item .inv .1)
 
 pub loop-item-again : need.loop-item-again
-loop-item-again g c =
-    ( sum-more (g .H·Hold .taken (c .args .hold .now)) (c .args .items .now) (c .loop-item .item-index) (c .item-item .result) (c .loop-item-test .taken) (c .item-item .is) _ _ (c .loop-item .inv .0) (c .taken-sum .ensures .value)
-    , omega (arith, c .taken-sum .ensures .bound, c .loop-item .inv .1) )
+loop-item-again g c = (
+  sum-more (g .H·Hold .taken (c .args .hold .now)) (c .args .items .now) (c .loop-item .item-index) (c .item-item .result) (c .loop-item-test .taken) (c .item-item .is) _ _ (c .loop-item .inv .0) (c .taken-sum .ensures .value),
+  omega (arith, c .taken-sum .ensures .bound, c .loop-item .inv .1),
+)
 
 pub returns : need.returns
 returns g c =

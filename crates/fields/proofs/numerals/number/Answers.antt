@@ -1,10 +1,8 @@
-use mathlib.Core.Path.{_≡_, refl, sym, ap, subst, _∙_}
-use Prim.Native.Nat.{_*_, _^_, _<_, _≤_}
+use mathlib.Core.Path.{_≡_}
 use native.Mathlib.Omega.{arith}
 use borrow.Author.Needs.{needs}
 use borrow.Author.Tests.{ltb-true, ltb-false}
-use lib.ListN.{length, getD, take}
-use Rattle.std.proofs.shelf.Lists.{take-all, nil-from-length}
+use lib.ListN.{length, getD}
 use Rattle.fields.proofs.Numbers.{not-empty, not-long, not-padded, not-mixed, reads, sofar, one-more}
 use Rattle.fields.proofs.numerals.number.Needs as need
 use Rattle.fields.proofs.numerals.number.Needs.{in-rest·by·then-text-lt2, in-rest·by·else-text-lt2·in-rest·}

@@ -33,15 +33,15 @@ returns g c =
     let t = c .in-Continue-told in
     let end : Point = shows m k r (t .book) in
     let law : Run-law (start m k r (joined row-in (notes-of bytes)) (a .money) (a .goods) (a .rule)) (joined request-in (notes-of bytes)) (vec-items (t .told)) end =
-        subst₂ (λ xs qs. Run-law (start m k r xs (a .money) (a .goods) (a .rule)) qs (vec-items (t .told)) end) rows requests (t .ensures tt) in
+    subst₂ (λ xs qs. Run-law (start m k r xs (a .money) (a .goods) (a .rule)) qs (vec-items (t .told)) end) rows requests (t .ensures tt) in
     let lines = c .in-Continue-report .ensures tt ∙ ap₂ (lines-report 1 0) (c .as-slice-5 .ensures .value ∙ noted) (c .as-slice-6 .ensures .value) in
     let members : List ReportLine = members-below (end .ledger) 64 in
     let reported : vec-items (c .if-notes .report) ≡ report-of bytes (vec-items (t .told)) (end .ledger) =
-        elim (c .if-notes .came) [
-          | then-notes·in-Continue-report-members w ↦
-            rw (w .report-is) (with-members (n .notes .opened) (opened-after false (lines-of bytes)) _ _ members (n .ensures tt .opened) (w .if-notes .taken) (w .in-Continue-report-members .ensures tt) ∙ ap (λ xs. xs ++ cond (opened-after false (lines-of bytes)) members []) lines)
-          | else-notes w ↦
-            rw (w .report-is) (without-members (n .notes .opened) (opened-after false (lines-of bytes)) _ members (n .ensures tt .opened) (w .if-notes .left) ∙ ap (λ xs. xs ++ cond (opened-after false (lines-of bytes)) members []) lines)
-        ] in
+    elim (c .if-notes .came) [
+      | then-notes·in-Continue-report-members w ↦
+          rw (w .report-is) (with-members (n .notes .opened) (opened-after false (lines-of bytes)) _ _ members (n .ensures tt .opened) (w .if-notes .taken) (w .in-Continue-report-members .ensures tt) ∙ ap (λ xs. xs ++ cond (opened-after false (lines-of bytes)) members []) lines)
+      | else-notes w ↦
+          rw (w .report-is) (without-members (n .notes .opened) (opened-after false (lines-of bytes)) _ members (n .ensures tt .opened) (w .if-notes .left) ∙ ap (λ xs. xs ++ cond (opened-after false (lines-of bytes)) members []) lines)
+    ] in
     let short = le-ltb 65536 (length bytes) (c .if-sheet-gt-MOST-BYTES .left) in
     subst (Reported-if m k r bytes (a .money) (a .goods) (a .rule) (vec-items (c .if-notes .report))) (sym short) (record { told = vec-items (t .told); end = end; law = law; reported = reported })

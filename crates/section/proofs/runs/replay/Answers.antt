@@ -26,10 +26,11 @@ loop-request-again g c =
     let i = c .loop-request .request-index in
     let pushed = c .push-reserved .ensures in
     let r = c .take-answer .result in
-    let more = ran-more _ _ _ (view (c .loop-request .book)) (inv .2) _ (r .0) (view (r .1)) (c .take-answer .ensures) in
-    ( omega (arith, pushed .len, inv .0)
-    , omega (arith, pushed .capacity, inv .1)
-    , rw (take-more (c .args .requests .now) i (Make (Deposit 0 Position 0)) (c .loop-request-test .taken), pushed .items) more )
+    let more = ran-more _ _ _ (view (c .loop-request .book)) (inv .2) _ (r .0) (view (r .1)) (c .take-answer .ensures) in (
+      omega (arith, pushed .len, inv .0),
+      omega (arith, pushed .capacity, inv .1),
+      rw (take-more (c .args .requests .now) i (Make (Deposit 0 Position 0)) (c .loop-request-test .taken), pushed .items) more,
+    )
 
 pub returns : need.returns
 returns g c =

@@ -1,5 +1,4 @@
 use mathlib.Core.Path.{refl, sym, ap, _∙_}
-use borrow.Author.Needs.{needs}
 use Rattle.fields.specs.Forms.{number-in}
 use Rattle.fields.specs.Sorting.{field-text}
 use Rattle.fields.proofs.Numbers.{number-is}
