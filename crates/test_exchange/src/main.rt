@@ -1,0 +1,7 @@
+// Orders, cancels, trades and ratings.
+use console::run_day;
+use std::error::AnyError;
+
+fn main(rt: LibcRuntime) -> Result<(), AnyError> {
+    run_day(&rt)
+}
