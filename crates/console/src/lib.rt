@@ -16,6 +16,7 @@ use std::io::Write;
 const MOST_READ: u64 = 65_537;
 
 const MONEY_REGISTERS: usize = 128;
+
 const GOODS_REGISTERS: usize = 1024;
 
 /// Reads the sheet.
