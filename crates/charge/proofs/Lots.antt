@@ -1,7 +1,7 @@
 -- A charge of so much for each lot keeps the law of charges.
 use mathlib.Core.Path.{_≡_, refl}
 use mathlib.Core.Bool.{Bool, true, false, cond}
-use Prim.Native.Nat.{ℕ, _+_, _*_, _/_, _≤_}
+use Prim.Native.Nat.{ℕ, _+_, _*_, _/_, _<_, _≤_}
 use native.Mathlib.Nat.{mul-add, mul-le-mul}
 use native.Mathlib.Omega.{arith}
 use lib.Dec.{leb}
@@ -25,13 +25,19 @@ module _ (top each rate price : ℕ) where
         | false ↦ λ e. omega arith
       ]) refl
 
--- a lot's percentage is no more than its price can be
-pub percent-bounded : (rate price lots : ℕ) → chargeable 10000 rate price lots ≡ true → percent-of rate price ≤ 1000000000
-percent-bounded rate price lots h =
+-- a price times a rate, and so much a lot times lots, within the limits
+pub rated-bounded : (rate price lots : ℕ) → chargeable 10000 rate price lots ≡ true → price * rate ≤ 10000000000000
+rated-bounded rate price lots h =
     let p : price ≤ 1000000000 = grind (arith, tells) in
     let r : rate ≤ 10000 = grind (arith, tells) in
-    let m : price * rate ≤ 1000000000 * 10000 = mul-le-mul p r in
-    omega arith
+    mul-le-mul p r
+
+pub lots-fit : (each lots : ℕ) → each ≤ 1000000000 → lots ≤ 10000 → each * lots < 18446744073709551616
+lots-fit each lots e l = omega (arith, mul-le-mul e l)
+
+-- a lot's percentage is no more than its price can be
+pub percent-bounded : (rate price lots : ℕ) → chargeable 10000 rate price lots ≡ true → percent-of rate price ≤ 1000000000
+percent-bounded rate price lots h = omega (arith, rated-bounded rate price lots h)
 
 pub rate-bounded : (rate price lots : ℕ) → chargeable 1000000000 rate price lots ≡ true → rate ≤ 1000000000
 rate-bounded rate price lots h = grind (arith, tells)
