@@ -1,4 +1,6 @@
 // The book in each half of the day: what members and staff bring to it, over any two keepers and any charge rule.
+#![tactic(auto)]
+
 mod accounts;
 mod book;
 mod days;

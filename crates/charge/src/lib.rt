@@ -1,4 +1,6 @@
 // Charge rules: what a lot at a price costs to reserve, behind one interface.
+#![tactic(auto)]
+
 mod flat;
 mod percent;
 mod rule;

@@ -1,4 +1,6 @@
 // A day sheet from standard input, and its report to standard output.
+#![tactic(auto)]
+
 use charge::PercentRule;
 use keeper::TableKeeper;
 use report::{ReportLine, run_sheet};

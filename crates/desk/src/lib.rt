@@ -1,4 +1,6 @@
 // The desk of a section: its day, the rows in force, the live orders and contracts, and what they hold.
+#![tactic(auto)]
+
 mod days;
 mod desk;
 mod finding;

@@ -1,4 +1,6 @@
 // The lines of a sheet, the fields of a line, and the forms that fields have.
+#![tactic(auto)]
+
 mod cursor;
 mod cutting;
 mod faults;

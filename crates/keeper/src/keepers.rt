@@ -44,8 +44,8 @@ pub fn vet_transfer<K: Registers>(
     receiver: usize,
     amount: u64,
 ) -> Result<(), KeeperFault>
-    ensures answer { result ≡ verdict (meaning keeper.now) (Transfer giver receiver amount) }
-    ensures cases { Judges (meaning keeper.now) (Transfer giver receiver amount) result }
+    ensures answer { result ≡ verdict (K.meaning keeper.now) (Transfer giver receiver amount) }
+    ensures cases { Judges (K.meaning keeper.now) (Transfer giver receiver amount) result }
 {
     let held = keeper.amount(giver)?;
     if receiver >= keeper.count() {
@@ -73,9 +73,9 @@ pub fn vet_transfer<K: Registers>(
 
 /// What a keeper has to say to an entry, with all its amounts together at hand.
 pub(crate) fn vet<K: Registers>(keeper: &K, total: u64, entry: Entry) -> Result<(), KeeperFault>
-    requires { total ≡ sum (meaning keeper.now).amounts }
-    ensures answer { result ≡ verdict (meaning keeper.now) entry }
-    ensures cases { Judges (meaning keeper.now) entry result }
+    requires { total ≡ sum (K.meaning keeper.now).amounts }
+    ensures answer { result ≡ verdict (K.meaning keeper.now) entry }
+    ensures cases { Judges (K.meaning keeper.now) entry result }
 {
     match entry {
         Entry::Credit { receiver, amount } => {

@@ -1,4 +1,6 @@
 // Every run of the ledger keeps the law of whole runs.
+#![tactic(auto)]
+
 ghost use Rattle.law.specs.Lawful.{LawfulFrom, RunsAreLawful};
 
 use charge::ChargeRule;

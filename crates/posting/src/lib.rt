@@ -1,4 +1,6 @@
 // The posting of entries at the keepers of money and goods.
+#![tactic(auto)]
+
 mod entering;
 mod moving;
 

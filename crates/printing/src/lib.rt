@@ -1,4 +1,6 @@
 // The text that the lines of a report are printed as.
+#![tactic(auto)]
+
 mod lines;
 mod pieces;
 

@@ -1,4 +1,6 @@
 // Runs a day sheet and reports on it.
+#![tactic(auto)]
+
 mod faults;
 mod lines;
 mod members;

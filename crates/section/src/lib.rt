@@ -1,4 +1,6 @@
 // The section book: requests in turn to a book that goes from half to half of the day.
+#![tactic(auto)]
+
 mod runs;
 mod section_book;
 mod taking;

@@ -1,4 +1,6 @@
 // What a contract does at funding, delivery and default.
+#![tactic(auto)]
+
 mod charges;
 mod limits;
 mod meeting;

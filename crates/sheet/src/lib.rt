@@ -1,4 +1,6 @@
 // Reads the lines of a day sheet.
+#![tactic(auto)]
+
 mod outcome;
 mod reading;
 mod verbs;

@@ -1,4 +1,6 @@
 // Orders, cancels, trades and ratings.
+#![tactic(auto)]
+
 use console::run_day;
 
 fn main(rt: HostRuntime) -> anyhow::Result<()> {

@@ -1,4 +1,6 @@
 // A day over two journals with few places: deliveries are refused whole once one of them is full.
+#![tactic(auto)]
+
 use charge::PercentRule;
 use console::{print_report, read_bytes};
 use keeper::{Entry, JournalKeeper};

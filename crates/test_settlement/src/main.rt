@@ -1,4 +1,6 @@
 // Fundings, deliveries and defaults over a hundred days.
+#![tactic(auto)]
+
 use console::run_day;
 
 fn main(rt: HostRuntime) -> anyhow::Result<()> {

@@ -1,4 +1,6 @@
 // The library that other languages link: a day sheet in, the text of its report out.
+#![tactic(auto)]
+
 ghost use Rattle.std.specs.Prelude.{◌≡◌, ◌≤◌, ◌++◌, length, drop, IfOk};
 ghost use Rattle.charge.specs.Charges.{flat, flat_top, percent, percent_top};
 ghost use Rattle.writing.specs.Writings.{ReportedText};

@@ -9,7 +9,7 @@ use Rattle.desk.proofs.opening.rows_in_force.Goals.{then-is-admitted, else-is-ad
 
 pub loop-row-init : goal.loop-row-init
 loop-row-init c =
-    let fresh = c.in-ok-listed.ensures in
+    let fresh = c.in_ok-listed.ensures in
     (omega (arith, fresh.len), fresh.capacity, fresh.items, ap (all_fit fit_row) fresh.items)
 
 pub loop-row-preserved : goal.loop-row-preserved

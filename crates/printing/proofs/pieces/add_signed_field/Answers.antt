@@ -11,5 +11,5 @@ returns c =
     let before = vec_items c.args.text.now in
     let figures = c.unsigned-abs.ensures.value ∙ ap nat_abs same in
     let below : le_z (pos 0) z ≡ false = ap (le_z (pos 0)) (sym same) ∙ c.if-number-ge0.false in
-    let digits = more c.in-ok-add-text.ensures c.in-ok-add-number.ensures in
+    let digits = more c.in_ok-add-text.ensures c.in_ok-add-number.ensures in
     record { all = digits.all ∙ ap (λ n. before ++ 44 ∷ 45 ∷ decimal n) figures ∙ ap (λ ds. before ++ 44 ∷ ds) (sym (minus z below)) }

@@ -14,7 +14,7 @@ loop-line-preserved c =
     let l = c.loop-line in
     let next = c.in-Some.ensures in
     let moves = open_next l.opened c.names_row.result _ c.if-opened.false c.names_row.ensures in (
-      note_more l.opened _ _ _ _ next moves _ _ _ _ c.note.ensures c.in-ok-push.ensures.items l.invariant.0,
+      note_more l.opened _ _ _ _ next moves _ _ _ _ c.note.ensures c.in_ok-push.ensures.items l.invariant.0,
       opened_more l.opened _ _ _ _ next moves _ l.invariant.1,
     )
 
@@ -23,7 +23,7 @@ loop-line-preserved-then-opened c =
     let l = c.loop-line in
     let next = c.in-Some.ensures in
     let moves = open_stays l.opened c.in-Some.line.now c.if-opened.true in (
-      note_more l.opened _ _ _ _ next moves _ _ _ _ c.note.ensures c.in-ok-push.ensures.items l.invariant.0,
+      note_more l.opened _ _ _ _ next moves _ _ _ _ c.note.ensures c.in_ok-push.ensures.items l.invariant.0,
       opened_more l.opened _ _ _ _ next moves _ l.invariant.1,
     )
 

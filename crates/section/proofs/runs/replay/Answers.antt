@@ -13,7 +13,7 @@ use Rattle.section.proofs.runs.replay.Goals as goal
 
 pub loop-request-init : goal.loop-request-init
 loop-request-init g c =
-    let room = c.in-ok-told.ensures in
+    let room = c.in_ok-told.ensures in
     (room.len, room.capacity, ran_none _ _ _ refl room.items)
 
 pub loop-request-preserved : goal.loop-request-preserved
@@ -34,7 +34,7 @@ returns g c =
     let a = c.args in
     let ran = c.loop-request.invariant.2 in
     let o : Start = start g.M.Registers g.G.Registers g.R.ChargeRule a.rows.now a.money a.goods a.rule in
-    let first : point_of trading g.M.Registers g.G.Registers g.R.ChargeRule c.in-ok-open.field-0 ≡ opened o = c.in-ok-open.ensures in
+    let first : point_of trading g.M.Registers g.G.Registers g.R.ChargeRule c.in_ok-open.field-0 ≡ opened o = c.in_ok-open.ensures in
     let all : Ran (opened o) a.requests.now (vec_items c.loop-request.told) (shows g.M.Registers g.G.Registers g.R.ChargeRule c.loop-request.book) =
     subst₂ (λ p rs. Ran p rs (vec_items c.loop-request.told) (shows g.M.Registers g.G.Registers g.R.ChargeRule c.loop-request.book)) first (take_all _ _ c.loop-request-test.false) ran in
     ran_lawful o _ _ _ (lawful_from g.M.Registers g.G.Registers g.R.ChargeRule a.rows.now a.money a.goods a.rule (g.met.R.ChargeRule.splits a.rule)) all

@@ -12,5 +12,5 @@ overflow-add-number g c = omega (arith, number_few _ _ _ _ _ _ _ _ c.loop-line.i
 
 pub loop-line-preserved : goal.loop-line-preserved
 loop-line-preserved g c =
-    let adds = subst (λ (l : ReportLine). Adds (vec_items c.loop-line.text) (line_text l) (vec_items c.add-line.new.text)) c.report-line.ensures c.in-ok-add-line.ensures in
+    let adds = subst (λ (l : ReportLine). Adds (vec_items c.loop-line.text) (line_text l) (vec_items c.add-line.new.text)) c.report-line.ensures c.in_ok-add-line.ensures in
     sofar_more _ _ _ _ _ _ _ _ c.loop-line.invariant _ _ c.in-Some.ensures _ c.note.ensures _ _ c.run-line-outcome.ensures _ adds _ c.opens-opened.ensures

@@ -6,23 +6,23 @@ use Rattle.book.specs.Views.{ledger_of}
 use Rattle.book.proofs.Allowing.{order_checked, order_refused}
 use Rattle.book.proofs.trading.TradingBook+M+G+R.check_order.Goals as goal
 
-pub returns-in-err-admission : goal.returns-in-err-admission
-returns-in-err-admission g c =
+pub returns-in_err-admission : goal.returns-in_err-admission
+returns-in_err-admission g c =
     let b : Ledger = ledger_of trading g.M.Registers g.G.Registers g.R.ChargeRule c.args.self.now in
     let exit = err_from_is_err_and c.from-residual.result c.from-residual.ensures.1 in
     let is = sym c.knows.ensures ∙ c.if-not-knows.false in
-    rw (exit.1, exit.2) (sym (order_refused b c.args.order.now _ is c.in-err-admission.ensures.checked))
+    rw (exit.1, exit.2) (sym (order_refused b c.args.order.now _ is c.in_err-admission.ensures.checked))
 
 pub returns-then-not-is-covered : goal.returns-then-not-is-covered
 returns-then-not-is-covered g c =
     let b : Ledger = ledger_of trading g.M.Registers g.G.Registers g.R.ChargeRule c.args.self.now in
     let is = sym c.knows.ensures ∙ c.if-not-knows.false in
-    let met = c.in-ok-admission.ensures.checked in
-    order_checked b c.args.order.now is met.0 c.in-ok-admission.admission.hold met.2 c.is-covered.result c.is-covered.ensures ∙ cond-false _ _ _ c.if-not-is-covered.true
+    let met = c.in_ok-admission.ensures.checked in
+    order_checked b c.args.order.now is met.0 c.in_ok-admission.admission.hold met.2 c.is-covered.result c.is-covered.ensures ∙ cond-false _ _ _ c.if-not-is-covered.true
 
 pub returns : goal.returns
 returns g c =
     let b : Ledger = ledger_of trading g.M.Registers g.G.Registers g.R.ChargeRule c.args.self.now in
     let is = sym c.knows.ensures ∙ c.if-not-knows.false in
-    let met = c.in-ok-admission.ensures.checked in
-    (order_checked b c.args.order.now is met.0 c.in-ok-admission.admission.hold met.2 c.is-covered.result c.is-covered.ensures ∙ cond-true _ _ _ c.if-not-is-covered.false, met.2)
+    let met = c.in_ok-admission.ensures.checked in
+    (order_checked b c.args.order.now is met.0 c.in_ok-admission.admission.hold met.2 c.is-covered.result c.is-covered.ensures ∙ cond-true _ _ _ c.if-not-is-covered.false, met.2)

@@ -14,8 +14,8 @@ returns-then-register-self c =
 pub loop-i-init : goal.loop-i-init
 loop-i-init c = sym (get_or-replicate c.args.self.now.registers c.args.register 0 0 c.if-register-self.false)
 
-pub held-after-held-requires : goal.held-after-held-requires
-held-after-held-requires c =
+pub held_after-held-requires : goal.held_after-held-requires
+held_after-held-requires c =
     let j = c.args.self.now in
     let i = c.loop-i.i in
     let b = turn_bound j.registers j.written j.places.now j.sound i (omega arith) c.args.register (omega arith) in
@@ -27,7 +27,7 @@ loop-i-preserved c =
     let j = c.args.self.now in
     let i = c.loop-i.i in
     let r = c.args.register in
-    c.held-after-held.ensures
+    c.held_after-held.ensures
     ∙ ap (λ x. held_after r x (get_or j.places.now i (Credit 0 0))) c.loop-i.invariant
     ∙ turn j.registers r j.places.now i (Credit 0 0) (omega arith) (omega arith)
 

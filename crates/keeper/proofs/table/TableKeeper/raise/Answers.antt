@@ -3,16 +3,20 @@ use Rattle.std.proofs.lemmas.List.{length-set}
 use Rattle.keeper.proofs.Fronts.{front-amount, front_raised, front-sum-raised}
 use Rattle.keeper.proofs.table.TableKeeper.raise.Goals as goal
 
-pub overflow-add-self : goal.overflow-add-self
-overflow-add-self c =
+pub overflow_add-self : goal.overflow_add-self
+overflow_add-self c =
     let t = c.args.self.now in
     omega (arith, c.requires.room, front-amount t.registers t.places.now c.args.register 0 c.requires.within t.within)
 
-pub invariant-of-self : goal.invariant-of-self
-invariant-of-self c =
+pub invariant_of-self : goal.invariant_of-self
+invariant_of-self c =
     let t = c.args.self.now in
     let e = front-sum-raised t.registers t.places.now c.args.register c.args.amount c.requires.within t.within in
-    (simp length-set t.within, (omega arith, (omega (arith, c.requires.room), tt)))
+    record {
+      within = simp length-set t.within;
+      sums = omega arith;
+      bound = omega (arith, c.requires.room);
+    }
 
 pub returns : goal.returns
 returns c =
