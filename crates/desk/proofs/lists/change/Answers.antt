@@ -6,15 +6,15 @@ use Rattle.desk.proofs.lists.change.Goals as goal
 pub loop-item-preserved : goal.loop-item-preserved
 loop-item-preserved g c =
     let f = g.C.Changes.changed c.args.changes.now in
-    map_more f c.deref-mut-item-items.result.now c.loop-item.item-items c.loop-item.item-index c.loop-item.auto.item-items c.loop-item.invariant _ _ c.loop-item-test.true c.change.ensures
+    map_more f c.deref_mut-item-items.result.now c.loop-item.item-items c.loop-item.item-index c.loop-item.auto.item-items c.loop-item.invariant _ _ c.loop-item-test.true c.change.ensures
 
 pub returns : goal.returns
 returns g c =
     let f = g.C.Changes.changed c.args.changes.now in
     record {
-      items = with_items_is c.args.items.now c.loop-item.item-items (c.loop-item.auto.item-items ∙ c.deref-mut-item-items.ensures.len)
-          ∙ map-all f c.deref-mut-item-items.result.now c.loop-item.item-items c.loop-item.item-index c.loop-item.auto.item-items c.loop-item.invariant c.loop-item-test.false
-          ∙ ap (map f) c.deref-mut-item-items.ensures.value;
+      items = with_items_is c.args.items.now c.loop-item.item-items (c.loop-item.auto.item-items ∙ c.deref_mut-item-items.ensures.len)
+          ∙ map-all f c.deref_mut-item-items.result.now c.loop-item.item-items c.loop-item.item-index c.loop-item.auto.item-items c.loop-item.invariant c.loop-item-test.false
+          ∙ ap (map f) c.deref_mut-item-items.ensures.value;
       len = refl;
       capacity = refl;
     }

@@ -7,8 +7,8 @@ use Rattle.desk.proofs.totals.total.Goals as goal
 pub taken-sum-requires : goal.taken-sum-requires
 taken-sum-requires g c = fit_read g.H.Hold.fit c.args.items.now c.loop-item.item-index c.item-item.result c.item-item.is c.loop-item-test.true c.requires.fit
 
-pub overflow-add-sum : goal.overflow-add-sum
-overflow-add-sum g c = omega (arith, c.requires.few, c.taken-sum.ensures.bound, c.loop-item.invariant.1)
+pub overflow_add-sum : goal.overflow_add-sum
+overflow_add-sum g c = omega (arith, c.requires.few, c.taken-sum.ensures.bound, c.loop-item.invariant.1)
 
 pub loop-item-preserved : goal.loop-item-preserved
 loop-item-preserved g c = (

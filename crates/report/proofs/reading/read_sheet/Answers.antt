@@ -36,5 +36,5 @@ loop-line-smaller-then-opened c = let next = ap length c.in-Some.ensures in omeg
 pub returns : goal.returns
 returns c =
     let l = c.loop-line in
-    let none = c.in-default.ensures.0 in
+    let none = c.in_default.ensures.0 in
     record { lines = note_none l.opened _ _ _ none l.invariant.0; opened = ap (opened_after l.opened) (sym none) ∙ l.invariant.1 }

@@ -4,7 +4,7 @@ use Rattle.section.specs.Steps.{shows}
 use Rattle.report.specs.Reports.{members_below}
 use Rattle.report.proofs.Reporting.{member_more, member_none, member_same}
 use Rattle.report.proofs.running.report_members.Goals as goal
-use Rattle.report.proofs.running.report_members.Goals.{in-Some+in_ok-push, in-default}
+use Rattle.report.proofs.running.report_members.Goals.{in-Some+in_ok-push, in_default}
 
 pub loop-member-init : goal.loop-member-init
 loop-member-init g c = member_none _ _
@@ -15,7 +15,7 @@ loop-member-preserved g c =
     let l = c.loop-member in
     elim c.match-member-line.branch [
       | in-Some+in_ok-push w ↦ rw w.report-is (member_more b l.member _ _ l.invariant _ w.in-Some.line w.in-Some.ensures w.in_ok-push.ensures.items)
-      | in-default w ↦ rw w.report-is (member_same b l.member _ _ l.invariant w.in-default.ensures)
+      | in_default w ↦ rw w.report-is (member_same b l.member _ _ l.invariant w.in_default.ensures)
     ]
 
 pub returns : goal.returns

@@ -7,5 +7,5 @@ use Rattle.desk.proofs.desk.Desk.contract.Goals as goal
 pub returns : goal.returns
 returns c =
     let d = c.args.self.now in
-    let e = c.find.ensures ∙ ap (found (λ x. x.trade.contract) c.args.number) c.as-slice.ensures.value in
+    let e = c.find.ensures ∙ ap (found (λ x. x.trade.contract) c.args.number) c.as_slice.ensures.value in
     record { value = e; fit = found-is fit_contract (λ x. x.trade.contract) c.args.number _ (vec_items d.contracts) e d.priced }

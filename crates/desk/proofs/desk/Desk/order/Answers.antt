@@ -7,5 +7,5 @@ use Rattle.desk.proofs.desk.Desk.order.Goals as goal
 pub returns : goal.returns
 returns c =
     let d = c.args.self.now in
-    let e = c.find.ensures ∙ ap (found (λ x. x.order.number) c.args.number) c.as-slice.ensures.value in
+    let e = c.find.ensures ∙ ap (found (λ x. x.order.number) c.args.number) c.as_slice.ensures.value in
     record { value = e; fit = found-is fit_order (λ x. x.order.number) c.args.number _ (vec_items d.orders) e d.sized }

@@ -5,9 +5,18 @@ use Rattle.desk.specs.Fits.{all_fit}
 use Rattle.desk.proofs.Fitting.{fit_map, rerated_fit}
 use Rattle.desk.proofs.desk.Desk.rerate.Goals as goal
 
-pub invariant-of-self : goal.invariant-of-self
-invariant-of-self g c =
+pub invariant_of-self : goal.invariant_of-self
+invariant_of-self g c =
     let d = c.args.self.now in
     let i = c.args.instrument in
     let rate = c.args.rate in
-    (d.early, (d.few, (d.room, (d.fewer, (d.rooms, (ap (all_fit fit_row) c.change.ensures.items ∙ fit_map fit_row (rerated i rate) (rerated_fit i rate) (vec_items d.rows) d.listed, (d.sized, (d.priced, tt))))))))
+    record {
+      early = d.early;
+      few = d.few;
+      room = d.room;
+      fewer = d.fewer;
+      rooms = d.rooms;
+      listed = ap (all_fit fit_row) c.change.ensures.items ∙ fit_map fit_row (rerated i rate) (rerated_fit i rate) (vec_items d.rows) d.listed;
+      sized = d.sized;
+      priced = d.priced;
+    }

@@ -7,5 +7,5 @@ use Rattle.desk.proofs.desk.Desk.row.Goals as goal
 pub returns : goal.returns
 returns c =
     let d = c.args.self.now in
-    let e = c.find.ensures ∙ ap (found (λ x. x.number) c.args.instrument) c.as-slice.ensures.value in
+    let e = c.find.ensures ∙ ap (found (λ x. x.number) c.args.instrument) c.as_slice.ensures.value in
     record { value = e; fit = found-is fit_row (λ x. x.number) c.args.instrument _ (vec_items d.rows) e d.listed }

@@ -8,8 +8,8 @@ use Rattle.fields.proofs.tokens.Token.number.Goals as goal
 pub returns-in-Some : goal.returns-in-Some
 returns-in-Some c = ap (λ f. number_in (field_text f)) c.in-Number.is ∙ sym (number_is _ _ c.number.ensures) ∙ c.in-Some.is
 
-pub returns-in-default-number : goal.returns-in-default-number
-returns-in-default-number c = (ap (λ f. number_in (field_text f)) c.in-Number.is ∙ sym (number_is _ _ c.number.ensures) ∙ c.in-default-number.is, refl)
+pub returns-in_default-number : goal.returns-in_default-number
+returns-in_default-number c = (ap (λ f. number_in (field_text f)) c.in-Number.is ∙ sym (number_is _ _ c.number.ensures) ∙ c.in_default-number.is, refl)
 
-pub returns-in-default : goal.returns-in-default
-returns-in-default c = (no_number c.args.self.field c.args.self.sorted c.in-default.not-Number, refl)
+pub returns-in_default : goal.returns-in_default
+returns-in_default c = (no_number c.args.self.field c.args.self.sorted c.in_default.not-Number, refl)
