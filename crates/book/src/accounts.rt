@@ -31,7 +31,7 @@ fn is_amount(amount: u64) -> bool
 impl<H: HalfOfDay, M: Keeper, G: Keeper, R: ChargeRule> Book<H, M, G, R> {
     /// What a deposit of money is refused for by the book.
     fn check_money(&self, member: u64, account: Account, amount: u64) -> Result<(), Refusal>
-        ensures checked { result ≡ allowed (checks (ledger_of (half self.now.half) M.Registers G.Registers R.ChargeRule self.now) (Deposit member account amount)) }
+        ensures checked { result ≡ allowed (checks (ledger_of (H.half self.now.half) M.Registers G.Registers R.ChargeRule self.now) (Deposit member account amount)) }
         ensures limits { OnOk result (member ≤ 63) }
     {
         if !self.knows(member) {
@@ -45,7 +45,7 @@ impl<H: HalfOfDay, M: Keeper, G: Keeper, R: ChargeRule> Book<H, M, G, R> {
 
     /// Brings money to a member's account, and answers the new amount.
     pub fn deposit(&mut self, member: u64, account: Account, amount: u64) -> Result<u64, Refusal>
-        ensures { Calls (half self.old.half) M.Registers G.Registers R.ChargeRule self.old (Deposit member account amount) (alone result) self.new }
+        ensures { Calls (H.half self.old.half) M.Registers G.Registers R.ChargeRule self.old (Deposit member account amount) (alone result) self.new }
     {
         self.check_money(member, account, amount)?;
         let receiver = account_register(member, account);
@@ -55,7 +55,7 @@ impl<H: HalfOfDay, M: Keeper, G: Keeper, R: ChargeRule> Book<H, M, G, R> {
 
     /// Whether an instrument's goods are kept in a warehouse.
     fn stores(&self, instrument: u64) -> bool
-        ensures value { result ≡ stored (ledger_of (half self.now.half) M.Registers G.Registers R.ChargeRule self.now) instrument }
+        ensures value { result ≡ stored (ledger_of (H.half self.now.half) M.Registers G.Registers R.ChargeRule self.now) instrument }
         ensures listed { result ≡ true → instrument ≤ 15 }
     {
         match self.desk.row(instrument) {
@@ -69,7 +69,7 @@ impl<H: HalfOfDay, M: Keeper, G: Keeper, R: ChargeRule> Book<H, M, G, R> {
 
     /// What a deposit of goods is refused for by the book.
     fn check_goods(&self, member: u64, instrument: u64, kilograms: u64) -> Result<(), Refusal>
-        ensures checked { result ≡ allowed (checks (ledger_of (half self.now.half) M.Registers G.Registers R.ChargeRule self.now) (DepositGoods member instrument kilograms)) }
+        ensures checked { result ≡ allowed (checks (ledger_of (H.half self.now.half) M.Registers G.Registers R.ChargeRule self.now) (DepositGoods member instrument kilograms)) }
         ensures limits { OnOk result ((member ≤ 63) × (instrument ≤ 15)) }
     {
         if !self.knows(member) {
@@ -91,7 +91,7 @@ impl<H: HalfOfDay, M: Keeper, G: Keeper, R: ChargeRule> Book<H, M, G, R> {
         instrument: u64,
         kilograms: u64,
     ) -> Result<u64, Refusal>
-        ensures { Calls (half self.old.half) M.Registers G.Registers R.ChargeRule self.old (DepositGoods member instrument kilograms) (alone result) self.new }
+        ensures { Calls (H.half self.old.half) M.Registers G.Registers R.ChargeRule self.old (DepositGoods member instrument kilograms) (alone result) self.new }
     {
         self.check_goods(member, instrument, kilograms)?;
         let receiver = stock_register(member, instrument);

@@ -23,7 +23,7 @@ fn difference(amount: u64, holds: u64) -> i64
 impl<H: HalfOfDay, M: Keeper, G: Keeper, R: ChargeRule> Book<H, M, G, R> {
     /// Whether the member's number is at most 63 and all its registers exist.
     pub(crate) fn knows(&self, member: u64) -> bool
-        ensures { result ≡ known (ledger_of (half self.now.half) M.Registers G.Registers R.ChargeRule self.now) member }
+        ensures { result ≡ known (ledger_of (H.half self.now.half) M.Registers G.Registers R.ChargeRule self.now) member }
     {
         member <= 63
             && 2 * member + 1 < self.money.count() as u64
@@ -33,7 +33,7 @@ impl<H: HalfOfDay, M: Keeper, G: Keeper, R: ChargeRule> Book<H, M, G, R> {
     /// The free limit of a register of money: its amount less the holds on it, around zero.
     pub(crate) fn free_money(&self, member: u64, account: Account) -> i64
         requires { member ≤ 63 }
-        ensures { result ≡ free_money (ledger_of (half self.now.half) M.Registers G.Registers R.ChargeRule self.now) member account }
+        ensures { result ≡ free_money (ledger_of (H.half self.now.half) M.Registers G.Registers R.ChargeRule self.now) member account }
     {
         let amount = held(&self.money, account_register(member, account));
         let holds = match account {
@@ -47,7 +47,7 @@ impl<H: HalfOfDay, M: Keeper, G: Keeper, R: ChargeRule> Book<H, M, G, R> {
     pub(crate) fn free_goods(&self, member: u64, instrument: u64) -> i64
         requires member { member ≤ 63 }
         requires instrument { instrument ≤ 15 }
-        ensures { result ≡ free_goods (ledger_of (half self.now.half) M.Registers G.Registers R.ChargeRule self.now) member instrument }
+        ensures { result ≡ free_goods (ledger_of (H.half self.now.half) M.Registers G.Registers R.ChargeRule self.now) member instrument }
     {
         let amount = held(&self.goods, stock_register(member, instrument));
         let holds = self.desk.goods_holds(member, instrument);

@@ -42,7 +42,7 @@ impl<H: HalfOfDay, M: Keeper, G: Keeper, R: ChargeRule> Book<H, M, G, R> {
     /// The margin demand: how far the free position limit is below zero.
     fn demand(&self, member: u64) -> u64
         requires { member ≤ 63 }
-        ensures { result ≡ demand (ledger_of (half self.now.half) M.Registers G.Registers R.ChargeRule self.now) member }
+        ensures { result ≡ demand (ledger_of (H.half self.now.half) M.Registers G.Registers R.ChargeRule self.now) member }
     {
         let free = self.free_money(member, Account::Position);
         if free < 0 { free.unsigned_abs() } else { 0 }
@@ -50,7 +50,7 @@ impl<H: HalfOfDay, M: Keeper, G: Keeper, R: ChargeRule> Book<H, M, G, R> {
 
     /// Amounts, free limits, demands, live orders and live contracts; nothing changes.
     pub fn ask(&self, question: Question) -> Result<Reply, Refusal>
-        ensures { result ≡ reply (ledger_of (half self.now.half) M.Registers G.Registers R.ChargeRule self.now) question }
+        ensures { result ≡ reply (ledger_of (H.half self.now.half) M.Registers G.Registers R.ChargeRule self.now) question }
     {
         match question {
             Question::Amount { member, account } => {
@@ -86,7 +86,7 @@ impl<H: HalfOfDay, M: Keeper, G: Keeper, R: ChargeRule> Book<H, M, G, R> {
     }
 
     fn ask_stock(&self, member: u64, instrument: u64) -> Result<Reply, Refusal>
-        ensures { result ≡ reply (ledger_of (half self.now.half) M.Registers G.Registers R.ChargeRule self.now) (Stock member instrument) }
+        ensures { result ≡ reply (ledger_of (H.half self.now.half) M.Registers G.Registers R.ChargeRule self.now) (Stock member instrument) }
     {
         if !self.knows(member) {
             return Err(Refusal::UnknownMember);
@@ -101,7 +101,7 @@ impl<H: HalfOfDay, M: Keeper, G: Keeper, R: ChargeRule> Book<H, M, G, R> {
     }
 
     fn ask_free_goods(&self, member: u64, instrument: u64) -> Result<Reply, Refusal>
-        ensures { result ≡ reply (ledger_of (half self.now.half) M.Registers G.Registers R.ChargeRule self.now) (FreeGoods member instrument) }
+        ensures { result ≡ reply (ledger_of (H.half self.now.half) M.Registers G.Registers R.ChargeRule self.now) (FreeGoods member instrument) }
     {
         if !self.knows(member) {
             return Err(Refusal::UnknownMember);

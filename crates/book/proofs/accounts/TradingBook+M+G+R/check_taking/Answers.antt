@@ -5,9 +5,9 @@ use Rattle.book.specs.Views.{ledger_of}
 use Rattle.book.proofs.Allowing.{money_more}
 use Rattle.book.proofs.accounts.TradingBook+M+G+R.check_taking.Goals as goal
 
-pub returns-in_err-check-money : goal.returns-in_err-check-money
-returns-in_err-check-money g c =
+pub returns-in_err-check_money : goal.returns-in_err-check_money
+returns-in_err-check_money g c =
     let a = c.args in
     let b : Ledger = ledger_of trading g.M.Registers g.G.Registers g.R.ChargeRule a.self.now in
-    let exit = err_from_is_err_and c.from-residual.result c.from-residual.ensures.1 in
-    exit.1 ∙ ap Err exit.2 ∙ money_more b a.member _ a.account a.amount c.in_err-check-money.ensures.checked
+    let exit = err_from_is_err_and c.from_residual.result c.from_residual.ensures.1 in
+    exit.1 ∙ ap Err exit.2 ∙ money_more b a.member _ a.account a.amount c.in_err-check_money.ensures.checked

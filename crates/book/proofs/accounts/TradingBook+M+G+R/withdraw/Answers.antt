@@ -7,8 +7,8 @@ use Rattle.book.specs.Views.{point_of}
 use Rattle.book.proofs.Allowing.{refused}
 use Rattle.book.proofs.accounts.TradingBook+M+G+R.withdraw.Goals as goal
 
-pub returns-in_err-check-taking : goal.returns-in_err-check-taking
-returns-in_err-check-taking g c =
+pub returns-in_err-check_taking : goal.returns-in_err-check_taking
+returns-in_err-check_taking g c =
     let a = c.args in
-    let exit = err_from_is_err_and c.from-residual.result c.from-residual.ensures.1 in
-    refused (point_of trading g.M.Registers g.G.Registers g.R.ChargeRule a.self.now) (Withdraw a.member a.account a.amount) _ c.in_err-check-taking.ensures (alone c.from-residual.result) (ap alone (exit.1 ∙ ap Err exit.2))
+    let exit = err_from_is_err_and c.from_residual.result c.from_residual.ensures.1 in
+    refused (point_of trading g.M.Registers g.G.Registers g.R.ChargeRule a.self.now) (Withdraw a.member a.account a.amount) _ c.in_err-check_taking.ensures (alone c.from_residual.result) (ap alone (exit.1 ∙ ap Err exit.2))

@@ -6,9 +6,9 @@ use Rattle.book.specs.Views.{point_of}
 use Rattle.book.proofs.Allowing.{refused}
 use Rattle.book.proofs.book.Book.deposit_goods.Goals as goal
 
-pub returns-in_err-check-goods : goal.returns-in_err-check-goods
-returns-in_err-check-goods g c =
+pub returns-in_err-check_goods : goal.returns-in_err-check_goods
+returns-in_err-check_goods g c =
     let a = c.args in
     let b = a.self.now in
-    let exit = err_from_is_err_and c.from-residual.result c.from-residual.ensures.1 in
-    refused (point_of (g.H.HalfOfDay.half b.half) g.M.Registers g.G.Registers g.R.ChargeRule b) (DepositGoods a.member a.instrument a.kilograms) _ c.in_err-check-goods.ensures.checked (alone c.from-residual.result) (ap alone (exit.1 ∙ ap Err exit.2))
+    let exit = err_from_is_err_and c.from_residual.result c.from_residual.ensures.1 in
+    refused (point_of (g.H.HalfOfDay.half b.half) g.M.Registers g.G.Registers g.R.ChargeRule b) (DepositGoods a.member a.instrument a.kilograms) _ c.in_err-check_goods.ensures.checked (alone c.from_residual.result) (ap alone (exit.1 ∙ ap Err exit.2))

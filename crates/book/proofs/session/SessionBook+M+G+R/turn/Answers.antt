@@ -10,8 +10,8 @@ pub returns : goal.returns
 returns g c =
     let a = c.args in
     let b : Ledger = ledger_of session g.M.Registers g.G.Registers g.R.ChargeRule a.self.now in
-    let free : ℤ = to_z w64 (of_z w64 c.free-money-free.result) in
-    let fits : SFits w64 c.free-money-free.result = search rules in
-    let is = to_z-of_z w64 c.free-money-free.result fits ∙ c.free-money-free.ensures in
-    let at = c.account-register.ensures ∙ ap position_register c.failing-side-failing.ensures in
+    let free : ℤ = to_z w64 (of_z w64 c.free_money-free.result) in
+    let fits : SFits w64 c.free_money-free.result = search rules in
+    let is = to_z-of_z w64 c.free_money-free.result fits ∙ c.free_money-free.ensures in
+    let at = c.account_register.ensures ∙ ap position_register c.failing_side-failing.ensures in
     turned_out b a.contract a.event c.in-Some.found c.in-Some.ensures.value free c.held-amount.result is (c.held-amount.ensures.value ∙ ap (λ r. get_or b.money r 0) at) c.turn.result c.turn.ensures

@@ -9,20 +9,20 @@ use Rattle.book.proofs.trading.TradingBook+M+G+R.check_order.Goals as goal
 pub returns-in_err-admission : goal.returns-in_err-admission
 returns-in_err-admission g c =
     let b : Ledger = ledger_of trading g.M.Registers g.G.Registers g.R.ChargeRule c.args.self.now in
-    let exit = err_from_is_err_and c.from-residual.result c.from-residual.ensures.1 in
+    let exit = err_from_is_err_and c.from_residual.result c.from_residual.ensures.1 in
     let is = sym c.knows.ensures ∙ c.if-not-knows.false in
     rw (exit.1, exit.2) (sym (order_refused b c.args.order.now _ is c.in_err-admission.ensures.checked))
 
-pub returns-then-not-is-covered : goal.returns-then-not-is-covered
-returns-then-not-is-covered g c =
+pub returns-then-not-is_covered : goal.returns-then-not-is_covered
+returns-then-not-is_covered g c =
     let b : Ledger = ledger_of trading g.M.Registers g.G.Registers g.R.ChargeRule c.args.self.now in
     let is = sym c.knows.ensures ∙ c.if-not-knows.false in
     let met = c.in_ok-admission.ensures.checked in
-    order_checked b c.args.order.now is met.0 c.in_ok-admission.admission.hold met.2 c.is-covered.result c.is-covered.ensures ∙ cond-false _ _ _ c.if-not-is-covered.true
+    order_checked b c.args.order.now is met.0 c.in_ok-admission.admission.hold met.2 c.is_covered.result c.is_covered.ensures ∙ cond-false _ _ _ c.if-not-is_covered.true
 
 pub returns : goal.returns
 returns g c =
     let b : Ledger = ledger_of trading g.M.Registers g.G.Registers g.R.ChargeRule c.args.self.now in
     let is = sym c.knows.ensures ∙ c.if-not-knows.false in
     let met = c.in_ok-admission.ensures.checked in
-    (order_checked b c.args.order.now is met.0 c.in_ok-admission.admission.hold met.2 c.is-covered.result c.is-covered.ensures ∙ cond-true _ _ _ c.if-not-is-covered.false, met.2)
+    (order_checked b c.args.order.now is met.0 c.in_ok-admission.admission.hold met.2 c.is_covered.result c.is_covered.ensures ∙ cond-true _ _ _ c.if-not-is_covered.false, met.2)

@@ -12,17 +12,17 @@ use Rattle.book.proofs.trading.TradingBook+M+G+R.place.Goals as goal
 pub returns-in_err-hold : goal.returns-in_err-hold
 returns-in_err-hold g c =
     let p : Point = point_of trading g.M.Registers g.G.Registers g.R.ChargeRule c.args.self.now in
-    let exit = err_from_is_err_and c.from-residual.result c.from-residual.ensures.1 in
-    refused p (Place c.args.order) _ (sym c.in_err-hold.ensures) (alone c.from-residual.result) (ap alone (exit.1 ∙ ap Err exit.2))
+    let exit = err_from_is_err_and c.from_residual.result c.from_residual.ensures.1 in
+    refused p (Place c.args.order) _ (sym c.in_err-hold.ensures) (alone c.from_residual.result) (ap alone (exit.1 ∙ ap Err exit.2))
 
 pub returns-in_err-place : goal.returns-in_err-place
 returns-in_err-place g c =
     let o = c.args.order in
     let p : Point = point_of trading g.M.Registers g.G.Registers g.R.ChargeRule c.args.self.now in
-    let exit = err_from_is_err_and c.from-residual-in_err-place.result c.from-residual-in_err-place.ensures.1 in
+    let exit = err_from_is_err_and c.from_residual-in_err-place.result c.from_residual-in_err-place.ensures.1 in
     let met = c.in_err-place.ensures in
     let is = order-known p.ledger o c.in_ok-hold.ensures.0 in
-    refused_by_desk p (Place o) _ (order_refused p.ledger o _ is met.0) (alone c.from-residual-in_err-place.result) (ap alone (exit.1 ∙ ap Err exit.2)) (desk_of trading c.place.new.self) met.1
+    refused_by_desk p (Place o) _ (order_refused p.ledger o _ is met.0) (alone c.from_residual-in_err-place.result) (ap alone (exit.1 ∙ ap Err exit.2)) (desk_of trading c.place.new.self) met.1
 
 pub returns : goal.returns
 returns g c =
