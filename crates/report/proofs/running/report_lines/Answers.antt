@@ -9,8 +9,8 @@ loop-i-init c = (ap (λ xs. xs ++ lines_report 1 0 c.args.notes.now c.args.told.
 pub loop-i-preserved : goal.loop-i-preserved
 loop-i-preserved c =
     let l = c.loop-i in (
-      line_more c.args.notes.now c.args.told.now _ _ l.i l.calls l.invariant.0 _ c.loop-i-test.true _ _ c.calls-in-calls.result c.told-at.result c.becomes-outcome.result c.report-line.result c.told-at.ensures c.becomes-outcome.ensures c.report-line.ensures c.in_ok-push.ensures.items c.calls-in-calls.ensures.value refl,
-      omega (arith, l.invariant.1, c.calls-in-calls.ensures.few),
+      line_more c.args.notes.now c.args.told.now _ _ l.i l.calls l.invariant.0 _ c.loop-i-test.true _ _ c.calls_in-calls.result c.told_at.result c.becomes-outcome.result c.report_line.result c.told_at.ensures c.becomes-outcome.ensures c.report_line.ensures c.in_ok-push.ensures.items c.calls_in-calls.ensures.value refl,
+      omega (arith, l.invariant.1, c.calls_in-calls.ensures.few),
     )
 
 pub returns : goal.returns

@@ -13,7 +13,7 @@ pub loop-member-preserved : goal.loop-member-preserved
 loop-member-preserved g c =
     let b : Ledger = (shows g.M.Registers g.G.Registers g.R.ChargeRule c.args.book.now).ledger in
     let l = c.loop-member in
-    elim c.match-member-line.branch [
+    elim c.match-member_line.branch [
       | in-Some+in_ok-push w ↦ rw w.report-is (member_more b l.member _ _ l.invariant _ w.in-Some.line w.in-Some.ensures w.in_ok-push.ensures.items)
       | in_default w ↦ rw w.report-is (member_same b l.member _ _ l.invariant w.in_default.ensures)
     ]

@@ -12,7 +12,7 @@ use Rattle.report.specs.Notes.{opened_after, request_in, row_in}
 use Rattle.report.specs.Reports.{ReportedIf, lines_report, members_below, notes_of, report_of}
 use Rattle.report.proofs.Reporting.{with_members, without_members}
 use Rattle.report.proofs.running.run_sheet.Goals as goal
-use Rattle.report.proofs.running.run_sheet.Goals.{then-notes+in_ok-report-members, else-notes}
+use Rattle.report.proofs.running.run_sheet.Goals.{then-notes+in_ok-report_members, else-notes}
 
 pub returns : goal.returns
 returns g c =
@@ -23,20 +23,20 @@ returns g c =
     let bytes : List ℕ = a.sheet.now in
     let n = c.in_ok-notes in
     let noted = n.ensures.lines in
-    let rows = c.as-slice-3.ensures.value ∙ c.in_ok-rows.ensures ∙ ap (flat_map row_in) (c.as-slice.ensures.value ∙ noted) in
-    let requests = c.as-slice-4.ensures.value ∙ c.in_ok-requests.ensures ∙ ap (flat_map request_in) (c.as-slice-2.ensures.value ∙ noted) in
+    let rows = c.as_slice-3.ensures.value ∙ c.in_ok-rows.ensures ∙ ap (flat_map row_in) (c.as_slice.ensures.value ∙ noted) in
+    let requests = c.as_slice-4.ensures.value ∙ c.in_ok-requests.ensures ∙ ap (flat_map request_in) (c.as_slice-2.ensures.value ∙ noted) in
     let t = c.in_ok-told in
     let end : Point = shows m k r t.book in
     let law : RunLaw (start m k r (flat_map row_in (notes_of bytes)) a.money a.goods a.rule) (flat_map request_in (notes_of bytes)) (vec_items t.told) end =
     subst₂ (λ xs qs. RunLaw (start m k r xs a.money a.goods a.rule) qs (vec_items t.told) end) rows requests t.ensures in
-    let lines = c.in_ok-report.ensures ∙ ap₂ (lines_report 1 0) (c.as-slice-5.ensures.value ∙ noted) c.as-slice-6.ensures.value in
+    let lines = c.in_ok-report.ensures ∙ ap₂ (lines_report 1 0) (c.as_slice-5.ensures.value ∙ noted) c.as_slice-6.ensures.value in
     let members : List ReportLine = members_below end.ledger 64 in
     let reported : vec_items c.if-notes.report ≡ report_of bytes (vec_items t.told) end.ledger =
     elim c.if-notes.branch [
-      | then-notes+in_ok-report-members w ↦
-          rw w.report-is (with_members n.notes.opened (opened_after false (lines_of bytes)) _ _ members n.ensures.opened w.if-notes.true w.in_ok-report-members.ensures ∙ ap (λ xs. xs ++ cond (opened_after false (lines_of bytes)) members []) lines)
+      | then-notes+in_ok-report_members w ↦
+          rw w.report-is (with_members n.notes.opened (opened_after false (lines_of bytes)) _ _ members n.ensures.opened w.if-notes.true w.in_ok-report_members.ensures ∙ ap (λ xs. xs ++ cond (opened_after false (lines_of bytes)) members []) lines)
       | else-notes w ↦
           rw w.report-is (without_members n.notes.opened (opened_after false (lines_of bytes)) _ members n.ensures.opened w.if-notes.false ∙ ap (λ xs. xs ++ cond (opened_after false (lines_of bytes)) members []) lines)
     ] in
-    let short = le-ltb 65536 (length bytes) c.if-sheet-gt-MOST-BYTES.false in
+    let short = le-ltb 65536 (length bytes) c.if-sheet-gt-MOST_BYTES.false in
     subst (ReportedIf m k r bytes a.money a.goods a.rule (vec_items c.if-notes.report)) (sym short) (record { told = vec_items t.told; end = end; law = law; reported = reported })

@@ -1,7 +1,7 @@
 use Rattle.std.proofs.Common.{sym, arith}
 use Rattle.std.proofs.lemmas.List.{get_or_default}
 use Rattle.rules.specs.declared.calls.Told.TheVariants.{Accepted, Misplaced}
-use Rattle.book.proofs.Amounts.{get_d_past}
+use Rattle.posting.proofs.Amounts.{get_d_past}
 use Rattle.report.proofs.running.told_at.Goals as goal
 
 pub returns-then-call-told : goal.returns-then-call-told

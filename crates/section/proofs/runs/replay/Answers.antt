@@ -21,7 +21,7 @@ loop-request-preserved g c =
     let view = shows g.M.Registers g.G.Registers g.R.ChargeRule in
     let inv = c.loop-request.invariant in
     let i = c.loop-request.request-index in
-    let pushed = c.push-reserved.ensures in
+    let pushed = c.push_reserved.ensures in
     let r = c.take-answer.result in
     let more = ran_more _ _ _ (view c.loop-request.book) inv.2 _ r.0 (view r.1) c.take-answer.ensures in (
       omega (arith, pushed.len, inv.0),
