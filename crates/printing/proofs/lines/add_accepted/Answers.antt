@@ -3,8 +3,8 @@ use Rattle.printing.proofs.lines.add_accepted.Goals as goal
 
 pub returns : goal.returns
 returns c =
-    let n = c.in_ok-add-number.ensures in
-    let a = more n c.in_ok-add-text.ensures in
-    let x = more a c.in_ok-add-field.ensures in
-    let y = more x c.in_ok-add-field-2.ensures in
-    more y c.in_ok-add-text-2.ensures
+    let n = c.in_ok-add_number.ensures in
+    let a = more n c.in_ok-add_text.ensures in
+    let x = more a c.in_ok-add_field.ensures in
+    let y = more x c.in_ok-add_field-2.ensures in
+    more y c.in_ok-add_text-2.ensures

@@ -5,9 +5,9 @@ use Rattle.printing.proofs.lines.add_refused.Goals as goal
 
 pub returns : goal.returns
 returns c =
-    let n = c.in_ok-add-number.ensures in
-    let r = more n c.in_ok-add-text.ensures in
-    let l = more r (subst (λ (xs : List ℕ). Adds (vec_items c.add-text.new.text) xs (vec_items c.add-text-2.new.text)) c.letter.ensures c.in_ok-add-text-2.ensures) in
-    let x = more l c.in_ok-add-field.ensures in
-    let y = more x c.in_ok-add-field-2.ensures in
-    more y c.in_ok-add-text-3.ensures
+    let n = c.in_ok-add_number.ensures in
+    let r = more n c.in_ok-add_text.ensures in
+    let l = more r (subst (λ (xs : List ℕ). Adds (vec_items c.add_text.new.text) xs (vec_items c.add_text-2.new.text)) c.letter.ensures c.in_ok-add_text-2.ensures) in
+    let x = more l c.in_ok-add_field.ensures in
+    let y = more x c.in_ok-add_field-2.ensures in
+    more y c.in_ok-add_text-3.ensures

@@ -21,4 +21,4 @@ returns c =
     let l = c.loop-rest in
     let inv = l.invariant in
     let ends = digit_last l.rest c.args.number l.at (l.at - 1) l.digits (omega (arith, inv.0, inv.1, inv.2)) (omega (arith, inv.1)) inv.5 c.loop-rest-test.false in
-    record { all = c.in_ok-add-text.ensures.all ∙ ap (λ ds. vec_items c.args.text.now ++ ds) (take_all _ _ (simp (length-drop, length-set) (omega (arith, inv.0))) ∙ ends) }
+    record { all = c.in_ok-add_text.ensures.all ∙ ap (λ ds. vec_items c.args.text.now ++ ds) (take_all _ _ (simp (length-drop, length-set) (omega (arith, inv.0))) ∙ ends) }
