@@ -9,10 +9,10 @@ use Rattle.section.specs.Steps.{shows}
 use Rattle.writing.specs.Writings.{LinesRun}
 use Rattle.writing.proofs.Writings.{Members, members_no, members_yes, whole, whole_refused}
 use Rattle.writing.proofs.running.write_sheet.Goals as goal
-use Rattle.writing.proofs.running.write_sheet.Goals.{then-opened+in_ok-add-members, else-opened}
+use Rattle.writing.proofs.running.write_sheet.Goals.{then-opened+in_ok-add_members, else-opened}
 
-pub returns-then-sheet-gt-MOST-BYTES : goal.returns-then-sheet-gt-MOST-BYTES
-returns-then-sheet-gt-MOST-BYTES g c = whole_refused _ _ _ c.if-sheet-gt-MOST-BYTES.true c.in_ok-text.ensures
+pub returns-then-sheet-gt-MOST_BYTES : goal.returns-then-sheet-gt-MOST_BYTES
+returns-then-sheet-gt-MOST_BYTES g c = whole_refused _ _ _ c.if-sheet-gt-MOST_BYTES.true c.in_ok-text.ensures
 
 pub returns : goal.returns
 returns g c =
@@ -24,13 +24,13 @@ returns g c =
     let p : Point = point_of trading m k r c.in_ok-book.book in
     let l = c.in_ok-book-2 in
     let q : Point = shows m k r l.book in
-    let mid : List ℕ = vec_items c.run-lines.new.text in
+    let mid : List ℕ = vec_items c.run_lines.new.text in
     let text : List ℕ = vec_items c.if-opened.text in
     let run : LinesRun p a.sheet.now [] mid q = subst (λ xs. LinesRun p a.sheet.now xs mid q) c.new-text.ensures.items l.ensures.run in
     let members : Members l.opened q.ledger mid text =
     elim c.if-opened.branch [
-      | then-opened+in_ok-add-members w ↦ rw w.text-is (members_yes l.opened q.ledger w.if-opened.true w.in_ok-add-members.ensures)
+      | then-opened+in_ok-add_members w ↦ rw w.text-is (members_yes l.opened q.ledger w.if-opened.true w.in_ok-add_members.ensures)
       | else-opened w ↦ rw w.text-is (members_no l.opened q.ledger w.if-opened.false refl)
     ] in
-    whole from a.sheet.now c.as-slice.result.now (c.as-slice.ensures.value ∙ c.in_ok-rows.ensures) (λ rs. lawful_from m k r rs a.money a.goods a.rule (g.met.R.ChargeRule.splits a.rule))
-    p q mid text l.opened c.in_ok-book.ensures run l.ensures.opened members c.if-sheet-gt-MOST-BYTES.false
+    whole from a.sheet.now c.as_slice.result.now (c.as_slice.ensures.value ∙ c.in_ok-rows.ensures) (λ rs. lawful_from m k r rs a.money a.goods a.rule (g.met.R.ChargeRule.splits a.rule))
+    p q mid text l.opened c.in_ok-book.ensures run l.ensures.opened members c.if-sheet-gt-MOST_BYTES.false
