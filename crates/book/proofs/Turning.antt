@@ -1,5 +1,5 @@
 -- An event of a found contract: what the desk makes of it, and what the keepers say.
-use Rattle.std.proofs.Common.{◌≡◌, ℕ, List, ℤ, Some, None, Ok, Err, Option, Result, unwrap_or, sym, refl, ap, ◌∙◌, subst, ap₂}
+use Rattle.std.proofs.Common.{◌≡◌, ℕ, ℤ, Some, None, Ok, Err, Option, Result, unwrap_or, sym, ap, ◌∙◌, subst, ap₂}
 use Rattle.std.specs.Option.{option_map}
 use Rattle.keeper.specs.Meaning.{Meaning}
 use Rattle.keeper.specs.declared.entries.Entry.{Entry}
@@ -8,7 +8,7 @@ use Rattle.rules.specs.declared.contracts.Event.{Event}
 use Rattle.rules.specs.declared.refusals.Refusal.{Refusal}
 use Rattle.rules.specs.declared.calls.Call.TheVariants.{Settle}
 use Rattle.rules.specs.Checks.{checks}
-use Rattle.rules.specs.Effects.{after, entered, settled, with_contracts}
+use Rattle.rules.specs.Effects.{entered}
 use Rattle.rules.specs.Entries.{entries}
 use Rattle.rules.specs.Limits.{Desk, Ledger, contract_at, contract_row, found_contract, free_clearing, no_contract, position}
 use Rattle.rules.specs.Rulings.{allowed, keepers_say}
@@ -17,7 +17,6 @@ use Rattle.rules.specs.Settling.{failing}
 use Rattle.settling.specs.declared.moves.Turn.{Turn}
 use Rattle.settling.specs.Meeting.{Turned, entry_of}
 use Rattle.desk.specs.Turns.{Turns, turn_checks}
-use Rattle.posting.specs.Entered.{Moved}
 use Rattle.book.specs.Turning.{TurnsOut}
 use Rattle.book.proofs.Allowing.{allowed_ok}
 

@@ -1,5 +1,5 @@
 -- What a book stands for, and what is owed of each call to it. Assumes nothing.
-use Rattle.std.specs.Prelude.{ℕ, Ok, Err, Result}
+use Rattle.std.specs.Prelude.{ℕ, Result}
 use Rattle.keeper.specs.declared.keepers.Registers as registers
 use Rattle.charge.specs.declared.rule.ChargeRule as rule
 use Rattle.rules.specs.declared.refusals.Refusal.{Refusal}

@@ -1,5 +1,5 @@
 -- A charge of so much for each lot keeps the law of charges.
-use Rattle.std.specs.Prelude.{◌≡◌, ℕ, ◌+◌, ◌*◌, ◌/◌, ◌<◌, ◌≤◌, Bool, true, false, cond, leb, refl}
+use Rattle.std.specs.Prelude.{◌≡◌, ℕ, ◌+◌, ◌*◌, ◌<◌, ◌≤◌, true, false, cond, refl}
 use Rattle.std.proofs.Common.{mul-add, mul-le-mul, arith}
 use Rattle.std.proofs.lemmas.Bool.Decides.{nat_tests}
 use Rattle.charge.specs.Charges.{by_lots, chargeable, highest, percent_of}

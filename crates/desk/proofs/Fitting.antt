@@ -1,5 +1,5 @@
 -- What is known of one element where all keep their limits.
-use Rattle.std.proofs.Common.{◌≡◌, ℕ, zero, suc, ◌-◌, ◌<◌, ◌≤◌, Bool, true, false, cond, ◌&&◌, ◌||◌, eqb, List, [], ◌∷◌, ◌++◌, map, length, get_or, IfSome, Some, None, filter, Option, unwrap_or, refl, ap, ◌∙◌, subst, arith}
+use Rattle.std.proofs.Common.{◌≡◌, ℕ, zero, suc, ◌-◌, ◌<◌, ◌≤◌, Bool, true, false, cond, ◌||◌, eqb, List, [], ◌∷◌, ◌++◌, map, length, get_or, IfSome, Some, filter, Option, unwrap_or, refl, ap, ◌∙◌, arith}
 use Rattle.std.proofs.lemmas.Bool.{and_parts, and_from, eqb-true}
 use Rattle.std.proofs.lemmas.Bool.Decides.{nat_tests}
 use Rattle.rules.specs.declared.rows.Row.{Row}
@@ -9,7 +9,6 @@ use Rattle.rules.specs.declared.contracts.Trade.{Trade}
 use Rattle.rules.specs.declared.contracts.State.{State}
 use Rattle.rules.specs.declared.contracts.Contract.{Contract}
 use Rattle.rules.specs.Terms.{found, good_order, good_row}
-use Rattle.rules.specs.Limits.{no_row, row_of}
 use Rattle.rules.specs.Orders.{at_rest, lowered_by, unfilled}
 use Rattle.rules.specs.Effects.{in_state, rerated, with_state}
 use Rattle.settling.specs.Fits.{fit_row, fit_contract, fit_state}

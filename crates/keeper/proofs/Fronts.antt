@@ -1,10 +1,10 @@
 -- A list of which the first places are registers: what a change of one leaves.
-use Rattle.std.proofs.Common.{◌≡◌, ℕ, ◌+◌, ◌-◌, ◌<◌, ◌≤◌, cond, leb, List, [], ◌∷◌, ◌++◌, length, get_or, take, drop, set, replicate, Ok, Err, sum, Result, sym, ap, ◌∙◌, arith}
+use Rattle.std.proofs.Common.{◌≡◌, ℕ, ◌+◌, ◌-◌, ◌<◌, ◌≤◌, cond, leb, List, ◌++◌, length, get_or, take, drop, set, replicate, Ok, Err, sum, Result, sym, ap, ◌∙◌, arith}
 use lib.Seq.{take-set-lt}
-use Rattle.std.proofs.lemmas.List.{length-set, length-take-le, get_or-take, length-replicate, take_at}
+use Rattle.std.proofs.lemmas.List.{length-take-le, get_or-take, length-replicate, take_at}
 use Rattle.keeper.specs.declared.entries.KeeperFault.{KeeperFault}
 use Rattle.keeper.specs.declared.entries.KeeperFault.TheVariants.{NoRegister}
-use Rattle.keeper.specs.Meaning.{limit, raised, lowered}
+use Rattle.keeper.specs.Meaning.{raised, lowered}
 use Rattle.keeper.proofs.Judged.{sum-raised, sum-lowered, amount_le_sum, amount-found}
 
 module _ (n : ℕ) (xs : List ℕ) (r a : ℕ) (below : r < n) where

@@ -1,5 +1,5 @@
 -- What a journal of entries comes to. Assumes nothing.
-use Rattle.std.specs.Prelude.{◌≡◌, ℕ, ◌+◌, ◌-◌, Bool, true, false, cond, ◌&&◌, List, [], ◌∷◌, take, replicate, is_ok, Ok, Err, fold, Result, ◌==◌, slice_set}
+use Rattle.std.specs.Prelude.{ℕ, ◌+◌, ◌-◌, Bool, true, cond, ◌&&◌, List, [], ◌∷◌, take, replicate, is_ok, Ok, Err, fold, Result, ◌==◌, slice_set}
 use Rattle.keeper.specs.declared.entries.Entry.{Entry}
 use Rattle.keeper.specs.declared.entries.Entry.TheVariants.{Credit, Debit, Transfer}
 use Rattle.keeper.specs.Meaning.{Meaning, judged, posted}

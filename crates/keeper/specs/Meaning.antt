@@ -1,5 +1,5 @@
 -- What a keeper means, and what an entry does to that meaning. Assumes nothing.
-use Rattle.std.specs.Prelude.{◌≡◌, ℕ, ◌+◌, ◌-◌, ◌<◌, ◌≤◌, Bool, true, false, cond, not, ◌&&◌, ◌||◌, T, List, [], ◌∷◌, length, Ok, Err, sum, Result, ◌==◌, nat_le, nat_lt, slice_index, slice_set}
+use Rattle.std.specs.Prelude.{◌≡◌, ℕ, ◌+◌, ◌-◌, ◌<◌, ◌≤◌, Bool, true, false, cond, ◌||◌, List, length, Ok, Err, sum, Result, ◌==◌, nat_le, nat_lt, slice_index, slice_set}
 use Rattle.keeper.specs.declared.entries.Entry.{Entry}
 use Rattle.keeper.specs.declared.entries.Entry.TheVariants.{Credit, Debit, Transfer}
 use Rattle.keeper.specs.declared.entries.KeeperFault.{KeeperFault}

@@ -1,6 +1,5 @@
 -- What the lines of a sheet come to before the book sees them. Assumes nothing.
 use Rattle.std.specs.Prelude.{ℕ, Bool, cond, not, ◌||◌, List, [], ◌∷◌, Ok, Err, Result}
-use Rattle.std.specs.List.{flat_map}
 use Rattle.fields.specs.Faults.{of_sheet, shown as line-shown}
 use Rattle.fields.specs.declared.LineFault.{LineFault}
 use Rattle.sheet.specs.declared.outcome.Line.{Line}

@@ -1,5 +1,5 @@
 -- One more step of a run.
-use Rattle.std.proofs.Common.{◌≡◌, List, [], ◌∷◌, ◌++◌, map, length, sym, refl, ap, ◌∙◌, subst}
+use Rattle.std.proofs.Common.{◌≡◌, List, [], ◌∷◌, ◌++◌, length, sym, refl, ap, ◌∙◌, subst}
 use Rattle.std.proofs.lemmas.List.{length-map, map_push}
 use Rattle.rules.specs.declared.calls.Request.{Request}
 use Rattle.rules.specs.declared.calls.Told.{Told}

@@ -1,4 +1,4 @@
-use Rattle.std.proofs.Common.{◌≡◌, ◌+◌, ◌-◌, ◌<◌, ◌++◌, length, drop, vec_items, ap, ◌∙◌, arith}
+use Rattle.std.proofs.Common.{◌-◌, ◌++◌, vec_items, ap, ◌∙◌, arith}
 use Rattle.std.proofs.lemmas.List.{length-drop, length-set, take_all}
 use Rattle.printing.proofs.Digits.{fewer, digit_more, digit_last}
 use Rattle.printing.proofs.pieces.add_number.Goals as goal

@@ -1,4 +1,4 @@
-use Rattle.std.proofs.Common.{◌≡◌, false, ◌++◌, length, sym, refl, ap, ◌∙◌, ap₂, arith}
+use Rattle.std.proofs.Common.{false, ◌++◌, length, sym, ap, ◌∙◌, ap₂, arith}
 use Rattle.report.specs.Notes.{notes_from, opened_after}
 use Rattle.report.proofs.Notings.{note_more, note_none, open_next, open_stays, opened_more}
 use Rattle.report.proofs.reading.read_sheet.Goals as goal

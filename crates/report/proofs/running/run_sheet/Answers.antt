@@ -1,10 +1,8 @@
-use Rattle.std.proofs.Common.{◌≡◌, ℕ, true, false, cond, List, [], ◌∷◌, ◌++◌, length, vec_items, sym, refl, ap, ◌∙◌, subst, ap₂, subst₂}
+use Rattle.std.proofs.Common.{◌≡◌, ℕ, false, cond, List, [], ◌++◌, length, vec_items, sym, ap, ◌∙◌, subst, ap₂, subst₂}
 use Rattle.std.specs.List.{flat_map}
-use Rattle.std.proofs.lemmas.List.{append-nil}
 use Rattle.std.proofs.lemmas.Bool.{le-ltb}
 use Rattle.fields.specs.Sheets.{lines_of}
 use Rattle.rules.specs.Law.{RunLaw, start}
-use Rattle.rules.specs.Limits.{Ledger}
 use Rattle.rules.specs.Runs.{Point}
 use Rattle.section.specs.Steps.{shows}
 use Rattle.report.specs.declared.lines.ReportLine.{ReportLine}

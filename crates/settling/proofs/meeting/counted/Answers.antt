@@ -1,4 +1,4 @@
-use Rattle.std.proofs.Common.{◌-◌, ◌*◌, min, refl, ap, ◌∙◌, ap₂, rules}
+use Rattle.std.proofs.Common.{◌-◌, ◌*◌, min, refl, ap, ◌∙◌}
 use Rattle.settling.proofs.Fitting.{kilograms_bound}
 use Rattle.settling.proofs.meeting.counted.Goals as goal
 

@@ -1,4 +1,4 @@
-use Rattle.std.proofs.Common.{sym, arith}
+use Rattle.std.proofs.Common.{arith}
 use Rattle.settling.proofs.Fitting.{value_bound}
 use Rattle.settling.proofs.meeting.due_at_funding.Goals as goal
 

@@ -1,5 +1,5 @@
 use Rattle.std.proofs.Common.{sym, refl, ◌∙◌}
-use Rattle.writing.proofs.Writings.{rows_done, rows_end, rows_more}
+use Rattle.writing.proofs.Writings.{rows_done, rows_more}
 use Rattle.writing.proofs.rows.rows_of.Goals as goal
 
 pub returns-then-opens : goal.returns-then-opens

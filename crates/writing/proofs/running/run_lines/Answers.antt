@@ -1,7 +1,7 @@
-use Rattle.std.proofs.Common.{length, vec_items, sym, refl, ap, ◌∙◌, subst, arith}
+use Rattle.std.proofs.Common.{vec_items, subst, arith}
 use Rattle.printing.specs.Texts.{Adds, line_text}
 use Rattle.report.specs.declared.lines.ReportLine.{ReportLine}
-use Rattle.writing.proofs.Writings.{number_few, sofar_end, sofar_more, sofar_none, sofar_open}
+use Rattle.writing.proofs.Writings.{number_few, sofar_more, sofar_none}
 use Rattle.writing.proofs.running.run_lines.Goals as goal
 
 pub loop-line-init : goal.loop-line-init

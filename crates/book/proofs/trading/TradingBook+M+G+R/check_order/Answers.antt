@@ -1,7 +1,7 @@
-use Rattle.std.proofs.Common.{◌≡◌, true, sym, ◌∙◌}
+use Rattle.std.proofs.Common.{sym, ◌∙◌}
 use Rattle.std.proofs.lemmas.Result.{err_from_is_err_and}
 use Rattle.std.proofs.lemmas.Bool.{cond-true, cond-false}
-use Rattle.rules.specs.Limits.{Ledger, known, trading}
+use Rattle.rules.specs.Limits.{Ledger, trading}
 use Rattle.book.specs.Views.{ledger_of}
 use Rattle.book.proofs.Allowing.{order_checked, order_refused}
 use Rattle.book.proofs.trading.TradingBook+M+G+R.check_order.Goals as goal

@@ -1,4 +1,4 @@
-use Rattle.std.proofs.Common.{◌≡◌, vec_items, ap, ◌∙◌}
+use Rattle.std.proofs.Common.{vec_items, ap, ◌∙◌}
 use Rattle.rules.specs.Terms.{found}
 use Rattle.settling.specs.Fits.{fit_row}
 use Rattle.desk.proofs.Fitting.{found-is}

@@ -1,4 +1,4 @@
-use Rattle.std.proofs.Common.{◌≡◌, ◌<◌, ◌≤◌, length, take, sum, ap, ◌∙◌, arith}
+use Rattle.std.proofs.Common.{take, arith}
 use Rattle.std.proofs.lemmas.List.{length-take-le}
 use Rattle.keeper.specs.declared.entries.Entry.TheVariants.{Transfer}
 use Rattle.keeper.proofs.Judged.{told, transfer_leaves}
