@@ -1,10 +1,9 @@
 # Sets ZALDRIF_LIB and ZALDRIF_C_LIB, the two archives to link, unless both are given already:
 # the library, and the C archive of the toolchain. To be sourced in the top folder.
 if [[ -z ${ZALDRIF_LIB:-} || -z ${ZALDRIF_C_LIB:-} ]]; then
-    printed=$(rt staticlib zaldrif)
-    ZALDRIF_LIB=target/staticlib/libzaldrif.a
-    # To finish: take the path of the C archive from what is printed.
-    ZALDRIF_C_LIB=$(grep -o '/[^[:space:]]*\.a' <<<"$printed" | grep -v libzaldrif | tail -n 1 || true)
+    (cd crates/zaldrif && rt lib) >&2
+    ZALDRIF_LIB=crates/zaldrif/out/libzaldrif.a
+    ZALDRIF_C_LIB=$(dirname "$(rt doc)")/c/liblibc_c.a
 fi
 for archive in "$ZALDRIF_LIB" "$ZALDRIF_C_LIB"; do
     [[ -f $archive ]] || { echo "no such archive: '$archive'" >&2; exit 1; }
