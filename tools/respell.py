@@ -19,10 +19,9 @@ SNAKE = "/opt/rattle/port/notes/2026-11-18-names-are-in-snake-case/snake.py"
 def main():
     top = os.path.dirname(HERE)
     table = os.path.join(HERE, "respelled.tsv")
-    done = subprocess.run(
-        [sys.executable, SNAKE, "--table", table, "--only", "antt,rt,md", "--prose", "none", "crates", "README.md", *sorted(glob.glob("docs/*.md", root_dir=top))],
-        cwd=top,
-    )
+    folders = [it for part in ("src", "specs", "proofs") for it in sorted(glob.glob(f"crates/*/{part}", root_dir=top))]
+    pages = ["README.md", *sorted(glob.glob("docs/*.md", root_dir=top))]
+    done = subprocess.run([sys.executable, SNAKE, "--table", table, "--only", "antt,rt,md", "--prose", "none", *folders, *pages], cwd=top)
     crates = sorted(glob.glob(os.path.join(top, "crates", "*", "")))
     for crate in crates:
         subprocess.run(["rt", "fmt"], cwd=crate, stdout=subprocess.DEVNULL)

@@ -96,8 +96,8 @@ either_way x y false r is = rw is
 
 module _ (b : Ledger) (o : Order) where
   -- an order that is taken is a known member's
-  pub order-known : allowed (checks b (Place o)) ≡ Ok tt → known b o.member ≡ true
-  order-known h = known_first (known b o.member) _ _ h
+  pub order_known : allowed (checks b (Place o)) ≡ Ok tt → known b o.member ≡ true
+  order_known h = known_first (known b o.member) _ _ h
 
   -- of an order that the desk can take, the free limit is left to be asked for
   pub order_checked : known b o.member ≡ true → allowed (order_checks (holding b.charge b.desk) o) ≡ Ok tt → (hold : ℕ) → hold ≡ order_hold b o → (r : Bool) → r ≡ not (lt_z (order_limit b o) (pos hold)) → allowed (checks b (Place o)) ≡ cond r (Ok tt) (Err FreeLimit)

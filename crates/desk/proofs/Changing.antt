@@ -10,5 +10,5 @@ module _ {X : Type 0} (f : X → X) (xs ys : List X) (i : ℕ) (long : length ys
       let inside : i < length ys = omega arith in
       ap (set ys i) e ∙ map_over_more f xs ys i (get_or ys i d) h so_far (get_or_default ys i d (get_or ys i d) inside)
 
-  pub map-all : length xs ≤ i → ys ≡ map f xs
-  map-all h = so_far ∙ ap₂ (λ a b. map f a ++ b) (take_all i xs h) (drop_all i xs h) ∙ append-nil (map f xs)
+  pub map_all : length xs ≤ i → ys ≡ map f xs
+  map_all h = so_far ∙ ap₂ (λ a b. map f a ++ b) (take_all i xs h) (drop_all i xs h) ∙ append-nil (map f xs)

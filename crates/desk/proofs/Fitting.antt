@@ -50,19 +50,19 @@ module _ {X : Type 0} (p : X → Bool) where
   value_fit false x d r one rest = rest
 
   module _ (number : X → ℕ) (n : ℕ) where
-    told-one : (t : Bool) (x : X) (r : Option X) → eqb (number x) n ≡ t → p x ≡ true → IfSome r (λ y. (number y ≡ n) × (p y ≡ true)) → IfSome (cond t (Some x) r) (λ y. (number y ≡ n) × (p y ≡ true))
-    told-one true x r e one rest = (eqb-true (number x) n e, one)
-    told-one false x r e one rest = rest
+    told_one : (t : Bool) (x : X) (r : Option X) → eqb (number x) n ≡ t → p x ≡ true → IfSome r (λ y. (number y ≡ n) × (p y ≡ true)) → IfSome (cond t (Some x) r) (λ y. (number y ≡ n) × (p y ≡ true))
+    told_one true x r e one rest = (eqb-true (number x) n e, one)
+    told_one false x r e one rest = rest
 
     -- what is found has the number, and keeps the limits
-    pub found-told : (xs : List X) → all_fit p xs ≡ true → IfSome (found number n xs) (λ y. (number y ≡ n) × (p y ≡ true))
-    found-told [] h = tt
-    found-told (x ∷ xs) h =
+    pub found_told : (xs : List X) → all_fit p xs ≡ true → IfSome (found number n xs) (λ y. (number y ≡ n) × (p y ≡ true))
+    found_told [] h = tt
+    found_told (x ∷ xs) h =
         let both = and_parts (p x) (all_fit p xs) h in
-        told-one (eqb (number x) n) x (found number n xs) refl both.0 (found-told xs both.1)
+        told_one (eqb (number x) n) x (found number n xs) refl both.0 (found_told xs both.1)
 
-    pub found-is : (r : Option X) (xs : List X) → r ≡ found number n xs → all_fit p xs ≡ true → IfSome r (λ y. (number y ≡ n) × (p y ≡ true))
-    found-is r xs e h = rw e (found-told xs h)
+    pub found_is : (r : Option X) (xs : List X) → r ≡ found number n xs → all_fit p xs ≡ true → IfSome r (λ y. (number y ≡ n) × (p y ≡ true))
+    found_is r xs e h = rw e (found_told xs h)
 
   -- what is found by its number, or what stands for it
   pub fit_found : (number : X → ℕ) (n : ℕ) (xs : List X) (d : X) → all_fit p xs ≡ true → p d ≡ true → p (unwrap_or (found number n xs) d) ≡ true

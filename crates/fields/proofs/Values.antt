@@ -58,11 +58,11 @@ digits_lack : (p : List ℕ) → ((i : ℕ) → i < length p → IsInRange 48 57
 digits_lack [] h = refl
 digits_lack (b ∷ p) h = and_from _ _ (not_from_false _ (ne_eqb b 44 (λ e. let k = h 0 (omega arith) in omega arith))) (digits_lack p (λ i l. h (suc i) (omega arith)))
 
-number-lacks : (n : ℕ) → Short n → lacks 44 (decimal n) ≡ true
-number-lacks n h = digits_lack (decimal n) (digits_decimal places n (omega arith))
+number_lacks : (n : ℕ) → Short n → lacks 44 (decimal n) ≡ true
+number_lacks n h = digits_lack (decimal n) (digits_decimal places n (omega arith))
 
 pub no_comma : (f : Form) (x : Value f) → Fits f x → lacks 44 (value_text f x) ≡ true
-no_comma a_number n h = number-lacks n h
+no_comma a_number n h = number_lacks n h
 no_comma an_account Position h = refl
 no_comma an_account Clearing h = refl
 no_comma a_side Buy h = refl
@@ -70,7 +70,7 @@ no_comma a_side Sell h = refl
 no_comma a_kind Warehouse h = refl
 no_comma a_kind Shipment h = refl
 no_comma a_last_day None h = refl
-no_comma a_last_day (Some d) h = number-lacks d h
+no_comma a_last_day (Some d) h = number_lacks d h
 
 -- the bytes that a text of the form has at most
 abbrev pub most : Form → ℕ

@@ -5,7 +5,7 @@ use Rattle.std.proofs.lemmas.List.{length-take-le, get_or-take, length-replicate
 use Rattle.keeper.specs.declared.entries.KeeperFault.{KeeperFault}
 use Rattle.keeper.specs.declared.entries.KeeperFault.TheVariants.{NoRegister}
 use Rattle.keeper.specs.Meaning.{raised, lowered}
-use Rattle.keeper.proofs.Judged.{sum-raised, sum-lowered, amount_le_sum, amount-found}
+use Rattle.keeper.proofs.Judged.{sum-raised, sum-lowered, amount_le_sum, amount_found}
 
 module _ (n : ℕ) (xs : List ℕ) (r a : ℕ) (below : r < n) where
   pub front_raised : take n (set xs r (get_or xs r 0 + a)) ≡ raised (take n xs) r a
@@ -18,20 +18,20 @@ module _ (n : ℕ) (xs : List ℕ) (r a : ℕ) (below : r < n) where
     inside : r < length (take n xs)
     inside = omega (arith, length-take-le n xs within)
 
-    pub front-amount : get_or xs r 0 ≤ sum (take n xs)
-    front-amount = omega (arith, amount_le_sum (take n xs) r a inside, get_or-take n xs r 0 below)
+    pub front_amount : get_or xs r 0 ≤ sum (take n xs)
+    front_amount = omega (arith, amount_le_sum (take n xs) r a inside, get_or-take n xs r 0 below)
 
-    pub front-sum-raised : sum (take n (set xs r (get_or xs r 0 + a))) ≡ sum (take n xs) + a
-    front-sum-raised = ap sum front_raised ∙ sum-raised (take n xs) r a inside
+    pub front_sum_raised : sum (take n (set xs r (get_or xs r 0 + a))) ≡ sum (take n xs) + a
+    front_sum_raised = ap sum front_raised ∙ sum-raised (take n xs) r a inside
 
-    pub front-sum-lowered : a ≤ get_or xs r 0 → sum (take n (set xs r (get_or xs r 0 - a))) + a ≡ sum (take n xs)
-    front-sum-lowered h =
+    pub front_sum_lowered : a ≤ get_or xs r 0 → sum (take n (set xs r (get_or xs r 0 - a))) + a ≡ sum (take n xs)
+    front_sum_lowered h =
         let l = sum-lowered (take n xs) r a inside (omega (arith, get_or-take n xs r 0 below)) in
         let e = ap sum front_lowered in
         omega arith
 
-    pub front-found : ◌≡◌ {A = Result ℕ KeeperFault} (Ok (get_or xs r 0)) (cond (leb (length (take n xs)) r) (Err NoRegister) (Ok (get_or (take n xs) r 0)))
-    front-found = amount-found (take n xs) r n (get_or xs r 0) (sym (length-take-le n xs within)) below (sym (get_or-take n xs r 0 below))
+    pub front_found : ◌≡◌ {A = Result ℕ KeeperFault} (Ok (get_or xs r 0)) (cond (leb (length (take n xs)) r) (Err NoRegister) (Ok (get_or (take n xs) r 0)))
+    front_found = amount_found (take n xs) r n (get_or xs r 0) (sym (length-take-le n xs within)) below (sym (get_or-take n xs r 0 below))
 
 -- the first n places are 0
 pub front_cleared : (n : ℕ) (xs ys : List ℕ) → xs ≡ replicate n 0 ++ drop n ys → take n xs ≡ replicate n 0

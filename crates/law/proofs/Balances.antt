@@ -16,7 +16,7 @@ use Rattle.rules.specs.Settling.{counted, payment, failing, injured, penalty_pai
 use Rattle.rules.specs.Entries.{Entries, entries, transfer}
 use Rattle.rules.specs.Effects.{after, answer}
 use Rattle.rules.specs.History.{Done, event_moves, moves, call_moves, brings, takes_out, money_brought, money_taken, goods_brought, goods_taken, row_in, funded_in}
-use Rattle.law.proofs.Entering.{entered_at, transfer-takes, transfer-brings}
+use Rattle.law.proofs.Entering.{entered_at, transfer_takes, transfer_brings}
 use Rattle.law.proofs.Rows.{alike}
 use Rattle.law.proofs.Accepting.{Accepts}
 use Rattle.law.proofs.Running.{done}
@@ -34,14 +34,14 @@ record Agrees (e f : Entries) : Type 0 where
   pub money : MovesSame e.money f.money
   pub goods : MovesSame e.goods f.goods
 
-same-moves : (e : Option Entry) → MovesSame e e
-same-moves e = record { brought = λ r. refl; taken = λ r. refl }
+same_moves : (e : Option Entry) → MovesSame e e
+same_moves e = record { brought = λ r. refl; taken = λ r. refl }
 
 agrees : (e : Entries) → Agrees e e
-agrees e = record { money = same-moves e.money; goods = same-moves e.goods }
+agrees e = record { money = same_moves e.money; goods = same_moves e.goods }
 
-transfer-moves : (g q a : ℕ) → MovesSame (transfer g q a) (Some (Transfer g q a))
-transfer-moves g q a = record { brought = transfer-brings g q a; taken = transfer-takes g q a }
+transfer_moves : (g q a : ℕ) → MovesSame (transfer g q a) (Some (Transfer g q a))
+transfer_moves g q a = record { brought = transfer_brings g q a; taken = transfer_takes g q a }
 
 -- ---- events
 
@@ -64,18 +64,18 @@ event_agrees rows past b n (Delivery kg) t =
     let r = contract_row b n in
     let kind : warehoused r.kind ≡ warehoused (row_in rows past n).kind = alike (λ x. warehoused x.kind) (λ x. refl) r (row_in rows past n) t.row in
     record {
-      money = rw (t.buyer, t.seller) (transfer-moves (clearing_register k.buyer) (clearing_register k.seller) (payment r k kg));
+      money = rw (t.buyer, t.seller) (transfer_moves (clearing_register k.buyer) (clearing_register k.seller) (payment r k kg));
       goods = elim (cases_Bool (warehoused r.kind)) [
         | inl e ↦ let f : warehoused (row_in rows past n).kind ≡ true = sym kind ∙ e in
-            rw (e, f, t.buyer, t.seller, t.instrument) (transfer-moves (goods_register k.seller k.instrument) (goods_register k.buyer k.instrument) (counted r k kg))
-        | inr e ↦ let f : warehoused (row_in rows past n).kind ≡ false = sym kind ∙ e in rw (e, f) (same-moves None)
+            rw (e, f, t.buyer, t.seller, t.instrument) (transfer_moves (goods_register k.seller k.instrument) (goods_register k.buyer k.instrument) (counted r k kg))
+        | inr e ↦ let f : warehoused (row_in rows past n).kind ≡ false = sym kind ∙ e in rw (e, f) (same_moves None)
       ];
     }
 event_agrees rows past b n Default t =
     let k = contract_at b n in
     let paid = penalty_paid b.charge (contract_row b n) (position b (failing k)) k in
     subst (Agrees (entries b (Settle n Default))) (sym (default_moves rows past b n t paid (answer b (Settle n Default)).1))
-    (record { money = transfer-moves (position_register (failing k)) (position_register (injured k)) paid; goods = same-moves None })
+    (record { money = transfer_moves (position_register (failing k)) (position_register (injured k)) paid; goods = same_moves None })
 
 -- ---- every call
 

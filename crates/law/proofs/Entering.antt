@@ -24,8 +24,8 @@ none_either true = refl
 none_either false = refl
 
 -- a sum of 0 moves nothing, so that it makes no entry
-pub transfer-takes : (g q a r : ℕ) → takes_out r (transfer g q a) ≡ cond (eqb g r) a 0
-transfer-takes g q a r = elim (cases_Bool (eqb a 0)) [ inl e ↦ let z : a ≡ 0 = eqb-true a 0 e in rw z (sym (none_either (eqb g r))) | inr e ↦ rw e refl ]
+pub transfer_takes : (g q a r : ℕ) → takes_out r (transfer g q a) ≡ cond (eqb g r) a 0
+transfer_takes g q a r = elim (cases_Bool (eqb a 0)) [ inl e ↦ let z : a ≡ 0 = eqb-true a 0 e in rw z (sym (none_either (eqb g r))) | inr e ↦ rw e refl ]
 
-pub transfer-brings : (g q a r : ℕ) → brings r (transfer g q a) ≡ cond (eqb q r) a 0
-transfer-brings g q a r = elim (cases_Bool (eqb a 0)) [ inl e ↦ let z : a ≡ 0 = eqb-true a 0 e in rw z (sym (none_either (eqb q r))) | inr e ↦ rw e refl ]
+pub transfer_brings : (g q a r : ℕ) → brings r (transfer g q a) ≡ cond (eqb q r) a 0
+transfer_brings g q a r = elim (cases_Bool (eqb a 0)) [ inl e ↦ let z : a ≡ 0 = eqb-true a 0 e in rw z (sym (none_either (eqb q r))) | inr e ↦ rw e refl ]

@@ -18,8 +18,8 @@ use Rattle.rules.specs.Holds.{holds_goods, order_money, order_goods, buyer_charg
 use Rattle.rules.specs.Limits.{Ledger, row_at, order_live, order_at, no_live_order}
 use Rattle.rules.specs.Orders.{is_buy, at_rest, lowered_by, has_rest, contract_of}
 use Rattle.rules.specs.Entries.{entries}
-use Rattle.law.proofs.Lists.{found_has, sum_kept, Falls, sum-lowered_two}
-use Rattle.law.proofs.Holding.{Limit, position_of, clearing_of, goods_of, order_on, contract_on, share, share_none, share-parts, share_rises, order_shares, contract_shares, untaken}
+use Rattle.law.proofs.Lists.{found_has, sum_kept, Falls, sum_lowered_two}
+use Rattle.law.proofs.Holding.{Limit, position_of, clearing_of, goods_of, order_on, contract_on, share, share_none, share_parts, share_rises, order_shares, contract_shares, untaken}
 use Rattle.law.proofs.Passing.{TradePassed}
 use Rattle.law.proofs.Backing.{Backed, untaken_backs}
 
@@ -52,8 +52,8 @@ goods_parts r o lots l =
     ]
 
 -- the rest and the part that is filled hold no more than the order did
-order-parts : (b : Ledger) → Fair b.charge → (l : Limit) (o : LiveOrder) (lots : ℕ) → lots ≤ o.rest → Small o → order_on b l (at_rest o (o.rest - lots)) + order_on b l (at_rest o lots) ≤ order_on b l o
-order-parts b fair l o lots few small =
+order_parts : (b : Ledger) → Fair b.charge → (l : Limit) (o : LiveOrder) (lots : ℕ) → lots ≤ o.rest → Small o → order_on b l (at_rest o (o.rest - lots)) + order_on b l (at_rest o lots) ≤ order_on b l o
+order_parts b fair l o lots few small =
     let r = row_at b o.order.instrument in
     let p = position_of o.order.member in
     let g = goods_of o.order.member o.order.instrument in
@@ -64,8 +64,8 @@ order-parts b fair l o lots few small =
       order_shares b l o,
       order_shares b l rest,
       order_shares b l part,
-      share-parts p l (order_money b.charge r rest) (order_money b.charge r part) (order_money b.charge r o) (money_parts b.charge fair r o lots few small),
-      share-parts g l (order_goods r rest) (order_goods r part) (order_goods r o) (goods_parts r o lots few),
+      share_parts p l (order_money b.charge r rest) (order_money b.charge r part) (order_money b.charge r o) (money_parts b.charge fair r o lots few small),
+      share_parts g l (order_goods r rest) (order_goods r part) (order_goods r o) (goods_parts r o lots few),
     )
 
 lowered_falls : (b : Ledger) → Fair b.charge → (t : Trade) (l : Limit) (o : LiveOrder) → Small o → order_on b l (lowered_by t o) ≤ order_on b l o
@@ -73,7 +73,7 @@ lowered_falls b fair t l o small =
     elim (cases_Bool (eqb o.order.number t.buy || eqb o.order.number t.sell)) [
       | inl e ↦ let fill : ℕ = o.rest - (o.rest - t.lots) in
           let same : o.rest - fill ≡ o.rest - t.lots = omega arith in
-          let parts = order-parts b fair l o fill (omega arith) small in
+          let parts = order_parts b fair l o fill (omega arith) small in
           rw e (omega (arith, rw same at parts))
       | inr e ↦ rw e (omega arith)
     ]
@@ -138,11 +138,11 @@ trade_backs b fair t l a small =
     untaken_backs b (Execute t) l (untaken (entries b (Execute t)) (λ r. refl) (λ r. refl) l) (omega (
       arith,
       sum_kept (order_on b l) has_rest (map (lowered_by t) b.desk.orders),
-      sum-lowered_two number (order_on b l) t.buy t.sell (lowered_by t) b.desk.orders no_live_order apart falls a.buy_live a.sell_live,
+      sum_lowered_two number (order_on b l) t.buy t.sell (lowered_by t) b.desk.orders no_live_order apart falls a.buy_live a.sell_live,
       ap (order_on b l) here,
       ap (order_on b l) there,
-      order-parts b fair l buy t.lots a.buy_rest fb.0,
-      order-parts b fair l sell t.lots a.sell_rest fs.0,
+      order_parts b fair l buy t.lots a.buy_rest fb.0,
+      order_parts b fair l sell t.lots a.sell_rest fs.0,
       sum_by_push (contract_on b l) b.desk.contracts (contract_of b t),
       takes_over b t l a,
     ))

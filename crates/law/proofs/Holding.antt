@@ -99,11 +99,11 @@ share_cases k l x = elim (cases_Bool (same k l)) [ inl e ↦ inr (same_is k l e,
 pub share_none : (k l : Limit) → share k l 0 ≡ 0
 share_none k l = none_either (same k l)
 
-pub share-parts : (k l : Limit) (x y z : ℕ) → x + y ≤ z → share k l x + share k l y ≤ share k l z
-share-parts k l x y z h = elim (same k l) as (λ v. cond v x 0 + cond v y 0 ≤ cond v z 0) [ true ↦ h | false ↦ omega arith ]
+pub share_parts : (k l : Limit) (x y z : ℕ) → x + y ≤ z → share k l x + share k l y ≤ share k l z
+share_parts k l x y z h = elim (same k l) as (λ v. cond v x 0 + cond v y 0 ≤ cond v z 0) [ true ↦ h | false ↦ omega arith ]
 
 pub share_rises : (k l : Limit) (x y : ℕ) → x ≤ y → share k l x ≤ share k l y
-share_rises k l x y h = omega (arith, share-parts k l x 0 y (omega arith))
+share_rises k l x y h = omega (arith, share_parts k l x 0 y (omega arith))
 
 -- ---- orders, contracts and entries by shares
 

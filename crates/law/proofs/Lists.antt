@@ -90,10 +90,10 @@ sum-lowered number f n h (x ∷ xs) d k s =
     ]
 
 -- and at least by what the elements of two numbers do
-pub sum-lowered_two : {X : Type 0} (number f : X → ℕ) (n m : ℕ) (h : X → X) (xs : List X) (d : X) → (n ≡ m → ⊥) → Falls f h xs → is_some (found number n xs) ≡ true → is_some (found number m xs) ≡ true →
+pub sum_lowered_two : {X : Type 0} (number f : X → ℕ) (n m : ℕ) (h : X → X) (xs : List X) (d : X) → (n ≡ m → ⊥) → Falls f h xs → is_some (found number n xs) ≡ true → is_some (found number m xs) ≡ true →
     sum_by f (map h xs) + (f (unwrap_or (found number n xs) d) + f (unwrap_or (found number m xs) d)) ≤ sum_by f xs + (f (h (unwrap_or (found number n xs) d)) + f (h (unwrap_or (found number m xs) d)))
-sum-lowered_two number f n m h [] d apart k s t = let z : ◌≡◌ {A = ℕ} 0 1 = cc in absurd (omega arith)
-sum-lowered_two number f n m h (x ∷ xs) d apart k s t =
+sum_lowered_two number f n m h [] d apart k s t = let z : ◌≡◌ {A = ℕ} 0 1 = cc in absurd (omega arith)
+sum_lowered_two number f n m h (x ∷ xs) d apart k s t =
     let here = sum_by-cons f x xs in
     let there = sum_by-cons f (h x) (map h xs) in
     elim (cases_Bool (eqb (number x) n)) [
@@ -103,7 +103,7 @@ sum-lowered_two number f n m h (x ∷ xs) d apart k s t =
       ]
       | inr e ↦ elim (cases_Bool (eqb (number x) m)) [
         | inl g ↦ simp (e, g) (omega (arith, here, there, sum-lowered number f n h xs d k.1 (simp e at s)))
-        | inr g ↦ simp (e, g) (omega (arith, here, there, k.0, sum-lowered_two number f n m h xs d apart k.1 (simp e at s) (simp g at t)))
+        | inr g ↦ simp (e, g) (omega (arith, here, there, k.0, sum_lowered_two number f n m h xs d apart k.1 (simp e at s) (simp g at t)))
       ]
     ]
 
@@ -147,15 +147,15 @@ changed_none : {X : Type 0} (number : X → ℕ) (n : ℕ) (c : X → X) (xs : L
 changed_none number n c [] a = refl
 changed_none number n c (x ∷ xs) a = rw (ne_eqb (number x) n a.0, changed_none number n c xs a.1) refl
 
-pub sum-without : {X : Type 0} (number f : X → ℕ) (n : ℕ) (xs : List X) (d : X) → Distinct number xs → is_some (found number n xs) ≡ true →
+pub sum_without : {X : Type 0} (number f : X → ℕ) (n : ℕ) (xs : List X) (d : X) → Distinct number xs → is_some (found number n xs) ≡ true →
     sum_by f (without number n xs) + f (unwrap_or (found number n xs) d) ≡ sum_by f xs
-sum-without number f n [] d k h = let z : ◌≡◌ {A = ℕ} 0 1 = cc in absurd (omega arith)
-sum-without number f n (x ∷ xs) d k h =
+sum_without number f n [] d k h = let z : ◌≡◌ {A = ℕ} 0 1 = cc in absurd (omega arith)
+sum_without number f n (x ∷ xs) d k h =
     elim (cases_Bool (eqb (number x) n)) [
       | inl e ↦ let s : number x ≡ n = eqb-true (number x) n e in
           let q : without number n xs ≡ xs = kept_all number n xs (subst (λ i. All (λ y. number y ≡ i → ⊥) xs) s k.0) in
           rw (e, q) (omega (arith, sum_by-cons f x xs))
-      | inr e ↦ let i = sum-without number f n xs d k.1 (simp e at h) in
+      | inr e ↦ let i = sum_without number f n xs d k.1 (simp e at h) in
           simp e (omega (arith, sum_by-cons f x xs, sum_by-cons f x (without number n xs), i))
     ]
 

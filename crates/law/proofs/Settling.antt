@@ -16,10 +16,10 @@ use Rattle.rules.specs.Limits.{Ledger, row_at, no_row, no_contract, contract_liv
 use Rattle.rules.specs.Settling.{counted, delivered_after, payment, failing, injured, penalty, penalty_paid, event_state}
 use Rattle.rules.specs.Entries.{entries}
 use Rattle.rules.specs.Effects.{with_state, settled}
-use Rattle.law.proofs.Lists.{Distinct, sum-without, sum-changed}
+use Rattle.law.proofs.Lists.{Distinct, sum_without, sum-changed}
 use Rattle.law.proofs.Rows.{Low, low_row}
-use Rattle.law.proofs.Entering.{transfer-takes}
-use Rattle.law.proofs.Holding.{Limit, position_of, clearing_of, goods_of, Proper, contract_on, share, share_none, share-parts, share_rises, contract_shares, taken_from, untaken, Takes, takes_none, taken_shares}
+use Rattle.law.proofs.Entering.{transfer_takes}
+use Rattle.law.proofs.Holding.{Limit, position_of, clearing_of, goods_of, Proper, contract_on, share, share_none, share_parts, share_rises, contract_shares, taken_from, untaken, Takes, takes_none, taken_shares}
 use Rattle.law.proofs.Passing.{FundingPassed, DeliveryPassed, DefaultPassed}
 use Rattle.law.proofs.TiedEvents.{Pays, unfunded}
 use Rattle.law.proofs.Backing.{Backed, free_backs}
@@ -33,10 +33,10 @@ left_of f None k = 0
 left_of f (Some s) k = f (with_state s k)
 
 -- of all that contracts hold, an event changes what its one contract holds
-settled-sum : (f : Contract → ℕ) (b : Ledger) (n : ℕ) (next : Option State) → contract_live b n ≡ true → Distinct number_of b.desk.contracts →
+settled_sum : (f : Contract → ℕ) (b : Ledger) (n : ℕ) (next : Option State) → contract_live b n ≡ true → Distinct number_of b.desk.contracts →
     sum_by f (settled n next b.desk.contracts) + f (contract_at b n) ≡ sum_by f b.desk.contracts + left_of f next (contract_at b n)
-settled-sum f b n None live apart = omega (arith, sum-without number_of f n b.desk.contracts no_contract apart live)
-settled-sum f b n (Some s) live apart = sum-changed number_of f n (with_state s) b.desk.contracts no_contract apart live
+settled_sum f b n None live apart = omega (arith, sum_without number_of f n b.desk.contracts no_contract apart live)
+settled_sum f b n (Some s) live apart = sum-changed number_of f n (with_state s) b.desk.contracts no_contract apart live
 
 -- a contract that ends holds no more than one that goes on
 ended_or_less : (f : Contract → ℕ) (v : Bool) (s : State) (k : Contract) → left_of f (cond v None (Some s)) k ≤ f (with_state s k)
@@ -46,7 +46,7 @@ ended_or_less f false s k = omega arith
 -- what is taken was held by the contract, and is held no more
 given_up : (b : Ledger) (n : ℕ) (e : Event) (l : Limit) → contract_live b n ≡ true → Distinct number_of b.desk.contracts →
     left_of (contract_on b l) (event_state (contract_row b n) (contract_at b n) e) (contract_at b n) + taken_from l (entries b (Settle n e)) ≤ contract_on b l (contract_at b n) → Backed b (Settle n e) l
-given_up b n e l live apart h = inl (omega (arith, settled-sum (contract_on b l) b n (event_state (contract_row b n) (contract_at b n) e) live apart))
+given_up b n e l live apart h = inl (omega (arith, settled_sum (contract_on b l) b n (event_state (contract_row b n) (contract_at b n) e) live apart))
 
 -- ---- funding: the due is free
 
@@ -60,7 +60,7 @@ funding_backs b n l a apart =
     free_backs b (Settle n Funding) (clearing_of k.buyer) (value k) l a.free (omega (
       arith,
       untaken (entries b (Settle n Funding)) (λ r. refl) (λ r. refl) l,
-      settled-sum (contract_on b l) b n (Some (Funded 0 0)) a.live apart,
+      settled_sum (contract_on b l) b n (Some (Funded 0 0)) a.live apart,
       contract_shares b l k,
       contract_shares b l next,
       share_none (position_of k.buyer) l,
@@ -83,10 +83,10 @@ delivery_takes b n kg l ok low =
     let k = contract_at b n in
     let r = contract_row b n in
     let e = entries b (Settle n (Delivery kg)) in
-    let money = transfer-takes (clearing_register k.buyer) (clearing_register k.seller) (payment r k kg) in
+    let money = transfer_takes (clearing_register k.buyer) (clearing_register k.seller) (payment r k kg) in
     elim (cases_Bool (warehoused r.kind)) [
       | inl w ↦
-          let goods : Takes e.goods (goods_register k.seller k.instrument) (counted r k kg) = λ i. rw w (transfer-takes (goods_register k.seller k.instrument) (goods_register k.buyer k.instrument) (counted r k kg) i) in
+          let goods : Takes e.goods (goods_register k.seller k.instrument) (counted r k kg) = λ i. rw w (transfer_takes (goods_register k.seller k.instrument) (goods_register k.buyer k.instrument) (counted r k kg) i) in
           let here : k.instrument ≤ 15 = low_row b.desk.rows k.instrument low (kept_here (found_row k.instrument b.desk.rows) w) in
           taken_shares e k.buyer Clearing (payment r k kg) k.seller k.instrument (counted r k kg) money goods here l ok
           ∙ ap (λ v. share (clearing_of k.buyer) l (payment r k kg) + share (goods_of k.seller k.instrument) l (cond v (counted r k kg) 0)) (sym w)
@@ -117,8 +117,8 @@ delivery_backs b n kg l ok a pays low apart =
       contract_shares b l k,
       contract_shares b l next,
       share_none (position_of k.buyer) l,
-      share-parts (clearing_of k.buyer) l (due next) (payment r k kg) (due k) owes,
-      share-parts (goods_of k.seller k.instrument) l (kilograms_held r next) moved (kilograms_held r k) weight,
+      share_parts (clearing_of k.buyer) l (due next) (payment r k kg) (due k) owes,
+      share_parts (goods_of k.seller k.instrument) l (kilograms_held r next) moved (kilograms_held r k) weight,
     ))
 
 -- ---- default: what is paid is no more than the failing side's hold
@@ -133,7 +133,7 @@ default_backs b n l ok a apart =
     let k = contract_at b n in
     let r = contract_row b n in
     let x = penalty_paid b.charge r (position b (failing k)) k in
-    let money = transfer-takes (position_register (failing k)) (position_register (injured k)) x in
+    let money = transfer_takes (position_register (failing k)) (position_register (injured k)) x in
     given_up b n Default l a.live apart (omega (
       arith,
       taken_shares (entries b (Settle n Default)) (failing k) Position x 0 0 0 money (takes_none 0) (omega arith) l ok,

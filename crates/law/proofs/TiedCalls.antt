@@ -24,8 +24,8 @@ use Rattle.law.proofs.Tied.{ordered, traded, Blank, Sides, Deal, Live, KnownOrde
 pub ordered_same : (past : List Done) (d : Done) (n : ℕ) → placed d.call ≡ [] → ordered (past ++ d ∷ []) n ≡ ordered past n
 ordered_same past d n h = rw (joined_push (λ (x : Done). placed x.call) past d, h, append-nil) refl
 
-pub traded-same : (past : List Done) (d : Done) (n : ℕ) → executed d.call ≡ [] → traded (past ++ d ∷ []) n ≡ traded past n
-traded-same past d n h = rw (joined_push (λ (x : Done). executed x.call) past d, h, append-nil) refl
+pub traded_same : (past : List Done) (d : Done) (n : ℕ) → executed d.call ≡ [] → traded (past ++ d ∷ []) n ≡ traded past n
+traded_same past d n h = rw (joined_push (λ (x : Done). executed x.call) past d, h, append-nil) refl
 
 pub orders_stay : (past : List Done) (d : Done) (os : List LiveOrder) → All (KnownOrder past) os → All (KnownOrder (past ++ d ∷ [])) os
 orders_stay past d os h = All-weaker (KnownOrder past) (KnownOrder (past ++ d ∷ [])) (λ o. ordered_stays past d o.order.number o.order) os h
@@ -41,9 +41,9 @@ quiet rows past d k p t e c =
       orders = orders_stay past d k.orders c.orders;
       unordered = λ n h. ordered_same past d n p ∙ c.unordered n h;
       contracts = contracts_stay rows past d e k.contracts c.contracts;
-      fresh = λ n h. traded-same past d n t ∙ c.fresh n h;
-      untraded = λ n h. blank_stays rows past d n (e n) (c.untraded n (sym (traded-same past d n t) ∙ h));
-      deals = λ n x h. deal_stays rows past d n x (e n) (c.deals n x (sym (traded-same past d n t) ∙ h));
+      fresh = λ n h. traded_same past d n t ∙ c.fresh n h;
+      untraded = λ n h. blank_stays rows past d n (e n) (c.untraded n (sym (traded_same past d n t) ∙ h));
+      deals = λ n x h. deal_stays rows past d n x (e n) (c.deals n x (sym (traded_same past d n t) ∙ h));
     }
 
 -- fewer live orders
@@ -70,9 +70,9 @@ keeps_order rows past b o a c =
       orders = All-push (KnownOrder (past ++ d ∷ [])) b.desk.orders (unfilled o) (orders_stay past d b.desk.orders c.orders) (none o.number above ∙ rw (eq-eqb o.number o.number refl) refl);
       unordered = λ n h. none n (omega arith) ∙ rw (ne_eqb o.number n (omega arith)) refl;
       contracts = contracts_stay rows past d (λ n. refl) b.desk.contracts c.contracts;
-      fresh = λ n h. traded-same past d n refl ∙ c.fresh n h;
-      untraded = λ n h. blank_stays rows past d n refl (c.untraded n (sym (traded-same past d n refl) ∙ h));
-      deals = λ n x h. deal_stays rows past d n x refl (c.deals n x (sym (traded-same past d n refl) ∙ h));
+      fresh = λ n h. traded_same past d n refl ∙ c.fresh n h;
+      untraded = λ n h. blank_stays rows past d n refl (c.untraded n (sym (traded_same past d n refl) ∙ h));
+      deals = λ n x h. deal_stays rows past d n x refl (c.deals n x (sym (traded_same past d n refl) ∙ h));
     }
 
 pub keeps_cancel : (rows : List Row) (past : List Done) (b : Ledger) (n : ℕ) → Tie rows past b.desk → Tie rows (past ++ done b (Cancel n) ∷ []) (desk_after b (Cancel n))
@@ -99,8 +99,8 @@ keeps_next_day rows past b c =
     let q = quiet rows past (done b EndSession) b.desk refl refl (λ n. refl) c in
     record { rows = q.rows; orders = q.orders; unordered = q.unordered; contracts = q.contracts; fresh = q.fresh; untraded = q.untraded; deals = q.deals }
 
-known-lowered : (past : List Done) (t : Trade) (o : LiveOrder) → KnownOrder past o → KnownOrder past (lowered_by t o)
-known-lowered past t o h =
+known_lowered : (past : List Done) (t : Trade) (o : LiveOrder) → KnownOrder past o → KnownOrder past (lowered_by t o)
+known_lowered past t o h =
     elim (cases_Bool (eqb o.order.number t.buy || eqb o.order.number t.sell)) [ inl e ↦ simp e h | inr e ↦ simp e h ]
 
 -- a live order is an accepted one
@@ -136,7 +136,7 @@ keeps_trade rows past b t a c =
       rows = c.rows;
       orders = all_kept_by has_rest (KnownOrder (past ++ d ∷ [])) (map (lowered_by t) b.desk.orders)
           (All-map (KnownOrder (past ++ d ∷ [])) (lowered_by t) b.desk.orders
-          (All-weaker (KnownOrder past) (λ o. KnownOrder (past ++ d ∷ []) (lowered_by t o)) (λ o h. known-lowered (past ++ d ∷ []) t o (ordered_stays past d o.order.number o.order h)) b.desk.orders c.orders));
+          (All-weaker (KnownOrder past) (λ o. KnownOrder (past ++ d ∷ []) (lowered_by t o)) (λ o h. known_lowered (past ++ d ∷ []) t o (ordered_stays past d o.order.number o.order h)) b.desk.orders c.orders));
       unordered = λ n h. ordered_same past d n refl ∙ c.unordered n h;
       contracts = All-push (Live rows (past ++ d ∷ [])) b.desk.contracts (contract_of b t) (contracts_stay rows past d (λ n. refl) b.desk.contracts c.contracts)
           (record { trade = new; sides = sides; buyer = refl; seller = refl; instrument = refl; funded = rw clean.fundings refl; kilograms = clean.kilograms; payments = clean.payments; unended = clean.endings });

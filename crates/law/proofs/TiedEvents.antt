@@ -25,7 +25,7 @@ use Rattle.law.proofs.Accepting.{Accepts}
 use Rattle.law.proofs.Running.{done}
 use Rattle.law.proofs.Pushing.{endings_push}
 use Rattle.law.proofs.Tied.{traded, fundings, Deal, Live, Tie, traded_stays, sides_stay, blank_stays, deal_stays, live_stays}
-use Rattle.law.proofs.TiedCalls.{orders_stay, ordered_same, traded-same}
+use Rattle.law.proofs.TiedCalls.{orders_stay, ordered_same, traded_same}
 
 -- ---- what the accepted calls tell of a live contract
 
@@ -152,10 +152,10 @@ settle_keeps rows past b d n e next is told leaves c =
       orders = orders_stay past d b.desk.orders c.orders;
       unordered = λ m h. ordered_same past d m p ∙ c.unordered m h;
       contracts = contracts_settled rows past d n e next is leaves.left b.desk.contracts c.contracts;
-      fresh = λ m h. traded-same past d m t ∙ c.fresh m h;
-      untraded = λ m h. let g : traded past m ≡ None = sym (traded-same past d m t) ∙ h in
+      fresh = λ m h. traded_same past d m t ∙ c.fresh m h;
+      untraded = λ m h. let g : traded past m ≡ None = sym (traded_same past d m t) ∙ h in
           blank_stays rows past d m (quiet_at m (λ x. let y : traded past n ≡ None = rw x g in let z : ◌≡◌ {A = ℕ} 0 1 = cc in omega arith)) (c.untraded m g);
-      deals = λ m x h. let g : traded past m ≡ Some x = sym (traded-same past d m t) ∙ h in
+      deals = λ m x h. let g : traded past m ≡ Some x = sym (traded_same past d m t) ∙ h in
           elim (cases_Bool (eqb n m)) [
             | inl q ↦ let f : n ≡ m = eqb-true n m q in
                 let y : k.trade ≡ x = (let u : traded past n ≡ Some x = rw f g in let v : Some k.trade ≡ Some x = sym had ∙ u in cc) in

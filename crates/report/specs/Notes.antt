@@ -1,12 +1,12 @@
 -- What the lines of a sheet come to before the book sees them. Assumes nothing.
 use Rattle.std.specs.Prelude.{ℕ, Bool, cond, not, ◌||◌, List, [], ◌∷◌, Ok, Err, Result}
-use Rattle.fields.specs.Faults.{of_sheet, shown as line-shown}
+use Rattle.fields.specs.Faults.{of_sheet, shown as line_shown}
 use Rattle.fields.specs.declared.LineFault.{LineFault}
 use Rattle.sheet.specs.declared.outcome.Line.{Line}
 use Rattle.sheet.specs.declared.outcome.Line.TheVariants.{Instrument, Call}
 use Rattle.sheet.specs.Lines.{read_line}
 use Rattle.sheet.specs.Verbs.{names_row}
-use Rattle.rules.specs.Refusals.{shown as book-shown}
+use Rattle.rules.specs.Refusals.{shown as book_shown}
 use Rattle.rules.specs.declared.rows.Row.{Row}
 use Rattle.rules.specs.declared.refusals.Shown.{Shown}
 use Rattle.rules.specs.declared.calls.Request.{Request}
@@ -16,10 +16,10 @@ use Rattle.report.specs.declared.faults.SheetFault.TheVariants.{NotRead, Misplac
 
 -- what a report shows of a fault
 abbrev pub shown : SheetFault → Shown
-shown (NotRead f) = line-shown f
+shown (NotRead f) = line_shown f
 shown Misplaced = of_sheet 55 0
 shown LongSheet = of_sheet 56 0
-shown (Refused e) = book-shown e
+shown (Refused e) = book_shown e
 
 -- a row is late once the book is open
 abbrev pub timely : Bool → Result Line LineFault → Result Line SheetFault

@@ -1,6 +1,6 @@
 -- The number of each refusal, and what a report shows of it. Assumes nothing.
 use Rattle.std.specs.Prelude.{ℕ}
-use Rattle.keeper.specs.Meaning.{number as keeper-number}
+use Rattle.keeper.specs.Meaning.{number as keeper_number}
 use Rattle.rules.specs.declared.refusals.Layer.{Layer}
 use Rattle.rules.specs.declared.refusals.Layer.TheVariants as layers
 use Rattle.rules.specs.declared.refusals.Shown.{Shown}
@@ -47,8 +47,8 @@ shown ContractsFull = of_book 27
 shown ContractNotLive = of_book 31
 shown ContractState = of_book 32
 shown WrongDay = of_book 33
-shown (Money f) = record { layer = layers.Money; number = keeper-number f.fault; place = f.register }
-shown (Goods f) = record { layer = layers.Goods; number = keeper-number f.fault; place = f.register }
+shown (Money f) = record { layer = layers.Money; number = keeper_number f.fault; place = f.register }
+shown (Goods f) = record { layer = layers.Goods; number = keeper_number f.fault; place = f.register }
 
 abbrev pub layer : Refusal → Layer
 layer e = (shown e).layer

@@ -3,12 +3,12 @@ use Rattle.std.proofs.Common.{◌≡◌, List, [], ◌∷◌, ◌++◌, length, 
 use Rattle.std.proofs.lemmas.List.{length-map, map_push}
 use Rattle.rules.specs.declared.calls.Request.{Request}
 use Rattle.rules.specs.declared.calls.Told.{Told}
-use Rattle.rules.specs.Runs.{Follows_on, Point, Run, Step, onward, reached}
+use Rattle.rules.specs.Runs.{FollowsOn, Point, Run, Step, onward, reached}
 use Rattle.section.specs.Steps.{Ran, Stepped}
 use Rattle.law.specs.Lawful.{KeepsLaw}
 use Rattle.rules.specs.Law.{RunLaw, Start, opened}
 
-run_more : (p : Point) (ss : List Step) (s : Step) → Run p ss → Follows_on (reached p ss) s → Run p (ss ++ s ∷ [])
+run_more : (p : Point) (ss : List Step) (s : Step) → Run p ss → FollowsOn (reached p ss) s → Run p (ss ++ s ∷ [])
 run_more p [] s run follows = (follows, tt)
 run_more p (t ∷ ts) s run follows = (run.0, run_more (onward p t) ts s run.1 follows)
 
@@ -22,13 +22,13 @@ ran_none p q told e none = record { steps = []; asked = refl; answered = sym non
 pub ran_more : (p : Point) (requests : List Request) (told : List Told) (q : Point) → Ran p requests told q → (r : Request) (t : Told) (q' : Point) → Stepped q r t q' → Ran p (requests ++ r ∷ []) (told ++ t ∷ []) q'
 ran_more p requests told q ran r t q' step =
     let s : Step = record { request = r; told = t; money = q'.money; goods = q'.goods } in
-    let follows : Follows_on q s = record { told = step.tells; money = step.money; goods = step.goods } in
+    let follows : FollowsOn q s = record { told = step.tells; money = step.money; goods = step.goods } in
     let lands : q' ≡ onward q s = ap (λ b. record { ledger = b; money = q'.money; goods = q'.goods }) step.ledger in
     record {
       steps = ran.steps ++ s ∷ [];
       asked = map_push (λ (x : Step). x.request) ran.steps s ∙ ap (λ xs. xs ++ r ∷ []) ran.asked;
       answered = map_push (λ (x : Step). x.told) ran.steps s ∙ ap (λ xs. xs ++ t ∷ []) ran.answered;
-      ruled = run_more p ran.steps s ran.ruled (subst (λ x. Follows_on x s) ran.ended follows);
+      ruled = run_more p ran.steps s ran.ruled (subst (λ x. FollowsOn x s) ran.ended follows);
       ended = lands ∙ ap (λ x. onward x s) ran.ended ∙ sym (reached_more p ran.steps s);
     }
 

@@ -86,9 +86,9 @@ abbrev room : List Form → ℕ
 room [] = 0
 room (f ∷ fs) = most f + 1 + room fs
 
-texts-room : (fs : List Form) (xs : Values fs) → AllFit fs xs → sizes (texts fs xs) ≤ room fs
-texts-room [] xs h = omega arith
-texts-room (f ∷ fs) xs h = omega (arith, at_most f xs.0 h.0, texts-room fs xs.1 h.1)
+texts_room : (fs : List Form) (xs : Values fs) → AllFit fs xs → sizes (texts fs xs) ≤ room fs
+texts_room [] xs h = omega arith
+texts_room (f ∷ fs) xs h = omega (arith, at_most f xs.0 h.0, texts_room fs xs.1 h.1)
 
 texts_lack : (fs : List Form) (xs : Values fs) → AllFit fs xs → all_lack 44 (texts fs xs) ≡ true
 texts_lack [] xs h = refl
@@ -192,7 +192,7 @@ entry_back : (v : Verb) (xs : Values (forms_of v)) → AllFit (forms_of v) xs �
 entry_back v xs h =
     let ps = texts (forms_of v) xs in
     let cut = cut_joined (word v) ps (and_from _ _ (plain v).1 (texts_lack (forms_of v) xs h)) in
-    cond-false _ _ _ (le-ltb most_bytes (length (with_commas (word v ∷ ps))) (omega (arith, joined_length (word v) ps, (plain v).2, texts-room (forms_of v) xs h)))
+    cond-false _ _ _ (le-ltb most_bytes (length (with_commas (word v ∷ ps))) (omega (arith, joined_length (word v) ps, (plain v).2, texts_room (forms_of v) xs h)))
     ∙ ap (λ qs. by_verb (verb_in (first_of qs)) (others_of qs)) cut
     ∙ ap (λ o. by_verb o ps) (plain v).0
     ∙ cond-true _ _ _ (eq-eqb _ _ (texts_count (forms_of v) xs))

@@ -6,7 +6,7 @@ use Rattle.rules.specs.declared.calls.Call.TheVariants.{Place}
 use Rattle.desk.specs.Called.{alone}
 use Rattle.desk.specs.Views.{desk_of}
 use Rattle.book.specs.Views.{point_of}
-use Rattle.book.proofs.Allowing.{order-known, order_refused, placed, refused, refused_by_desk}
+use Rattle.book.proofs.Allowing.{order_known, order_refused, placed, refused, refused_by_desk}
 use Rattle.book.proofs.trading.TradingBook+M+G+R.place.Goals as goal
 
 pub returns-in_err-hold : goal.returns-in_err-hold
@@ -21,7 +21,7 @@ returns-in_err-place g c =
     let p : Point = point_of trading g.M.Registers g.G.Registers g.R.ChargeRule c.args.self.now in
     let exit = err_from_is_err_and c.from_residual-in_err-place.result c.from_residual-in_err-place.ensures.1 in
     let met = c.in_err-place.ensures in
-    let is = order-known p.ledger o c.in_ok-hold.ensures.0 in
+    let is = order_known p.ledger o c.in_ok-hold.ensures.0 in
     refused_by_desk p (Place o) _ (order_refused p.ledger o _ is met.0) (alone c.from_residual-in_err-place.result) (ap alone (exit.1 ∙ ap Err exit.2)) (desk_of trading c.place.new.self) met.1
 
 pub returns : goal.returns

@@ -2,7 +2,7 @@ use Rattle.std.proofs.Common.{◌≡◌, ◌-◌, ◌<◌, length, take, Ok, sym
 use Rattle.std.proofs.lemmas.List.{length-set}
 use Rattle.keeper.specs.Meaning.{judged}
 use Rattle.keeper.specs.Journal.{balances, total_after}
-use Rattle.keeper.proofs.Journals.{balances_more, sound_more, sums-more, spare_told, length-posted}
+use Rattle.keeper.proofs.Journals.{balances_more, sound_more, sums_more, spare_told, length-posted}
 use Rattle.keeper.proofs.journal.JournalKeeperKeeper.post.Goals as goal
 
 pub invariant_of-self : goal.invariant_of-self
@@ -16,7 +16,7 @@ invariant_of-self c =
     let ok : judged (balances n (take w ps)) s 1 e ≡ Ok tt = sym c.vet.ensures.answer ∙ c.in_ok-vet.was in
     let free = spare_told (balances n (take w ps)) s 1 e ok in
     let lt : w < length ps = omega arith in
-    let m = sums-more n w ps e lt s 1 ok j.bound in
+    let m = sums_more n w ps e lt s 1 ok j.bound in
     record {
       fitting = simp length-set j.fitting;
       within = omega arith;

@@ -2,7 +2,7 @@ use Rattle.std.proofs.Common.{◌≡◌, get_or, take, sym, ap, ◌∙◌, arith
 use Rattle.std.proofs.lemmas.List.{get_or-replicate}
 use Rattle.keeper.specs.declared.entries.Entry.TheVariants.{Credit}
 use Rattle.keeper.specs.Journal.{balances, held_after}
-use Rattle.keeper.proofs.Judged.{amount-found, amount_missing}
+use Rattle.keeper.proofs.Judged.{amount_found, amount_missing}
 use Rattle.keeper.proofs.Journals.{flow, length-balances, turn, turn_bound, turn_worth}
 use Rattle.keeper.proofs.journal.JournalKeeperRegisters.amount.Goals as goal
 
@@ -38,6 +38,6 @@ returns c =
     let es = take j.written j.places.now in
     let held = c.loop-i.invariant ∙ ap (λ k. get_or (balances j.registers (take k j.places.now)) c.args.register 0) e in
     record {
-      answer = amount-found (balances j.registers es) c.args.register j.registers c.loop-i.held (sym (length-balances j.registers es)) (omega arith) held;
+      answer = amount_found (balances j.registers es) c.args.register j.registers c.loop-i.held (sym (length-balances j.registers es)) (omega arith) held;
       flows = flow j.registers c.args.register c.loop-i.held es j.sound (omega arith) held;
     }
