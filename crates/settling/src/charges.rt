@@ -1,6 +1,7 @@
 // What a contract holds of its parties' money.
-ghost use Rattle.std.specs.Prelude.{◌≡◌, ◌≤◌};
+ghost use Rattle.std.specs.Prelude.{◌≡◌, ◌≤◌, true};
 ghost use Rattle.rules.specs.Holds.{buyer_charge, due, seller_charge, value};
+ghost use Rattle.settling.specs.Fits.{fit_contract};
 
 use charge::ChargeRule;
 use rules::contracts::{Contract, State};
@@ -30,14 +31,16 @@ pub fn seller_charge<R: ChargeRule>(rule: &R, row: &Row, contract: &Contract) ->
 
 /// What a whole contract costs.
 pub(crate) fn value(contract: &Contract) -> u128
-    ensures { result ≡ value contract.now }
+    ensures value { result ≡ value contract.now }
+    ensures bound { fit_contract contract.now ≡ true → result ≤ 10000000000000 }
 {
     u128::from(contract.trade.price) * u128::from(contract.trade.lots)
 }
 
 /// Once a contract is funded, what is not yet paid.
 pub fn due(contract: &Contract) -> u128
-    ensures { result ≡ due contract.now }
+    ensures value { result ≡ due contract.now }
+    ensures bound { fit_contract contract.now ≡ true → result ≤ 100000000000000 }
 {
     match contract.state {
         State::Unfunded => 0,

@@ -251,7 +251,8 @@ pub fn meet<R: ChargeRule>(
     at: &Circumstances,
     event: Event,
 ) -> Result<Turn, Refusal>
-    ensures { MeetsAny (R.ChargeRule.charge rule.now) at.now contract.now event result }
+    ensures any { MeetsAny (R.ChargeRule.charge rule.now) at.now contract.now event result }
+    ensures fitting { fit_contract contract.now ≡ true → fit_row at.now.row ≡ true → Meets (R.ChargeRule.charge rule.now) at.now contract.now event result }
 {
     if !fits(contract) || !fits_row(&at.row) {
         return Err(Refusal::BadValue);

@@ -1,6 +1,7 @@
 // Kilograms of a contract.
-ghost use Rattle.std.specs.Prelude.{◌≡◌};
+ghost use Rattle.std.specs.Prelude.{◌≡◌, ◌≤◌, true};
 ghost use Rattle.rules.specs.Holds.{delivered, kilograms_held};
+ghost use Rattle.settling.specs.Fits.{fit_contract, fit_row};
 
 use rules::contracts::{Contract, State};
 use rules::rows::{Kind, Row};
@@ -17,7 +18,8 @@ pub(crate) fn delivered(contract: &Contract) -> u64
 
 /// The goods that a contract holds: in a warehouse, the kilograms not delivered.
 pub fn kilograms_held(row: &Row, contract: &Contract) -> u128
-    ensures { result ≡ kilograms_held row.now contract.now }
+    ensures value { result ≡ kilograms_held row.now contract.now }
+    ensures bound { fit_row row.now ≡ true → fit_contract contract.now ≡ true → result ≤ 1000000000 }
 {
     match row.kind {
         Kind::Warehouse => {

@@ -3,4 +3,4 @@ use Rattle.settling.proofs.Fitting.{value_bound}
 use Rattle.settling.proofs.meeting.due_at_funding.Goals as goal
 
 pub returns : goal.returns
-returns c = record { value = c.value.ensures; bound = omega (arith, c.value.ensures, value_bound c.args.contract.now c.requires) }
+returns c = record { value = c.value.ensures.value; bound = omega (arith, c.value.ensures.value, value_bound c.args.contract.now c.requires) }

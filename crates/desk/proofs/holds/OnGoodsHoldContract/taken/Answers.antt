@@ -6,5 +6,5 @@ pub returns : goal.returns
 returns c =
     record {
       value = search rules;
-      bound = omega (arith, c.kilograms_held.ensures, held_bound c.row_or_none-row.result c.args.contract.now c.row_or_none-row.ensures.fit c.requires);
+      bound = omega (arith, c.kilograms_held.ensures.value, held_bound c.row_or_none-row.result c.args.contract.now c.row_or_none-row.ensures.fit c.requires);
     }
