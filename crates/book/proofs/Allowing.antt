@@ -113,6 +113,5 @@ pub placed : (p : Point) (o : Order) (d : Desk) → allowed (checks p.ledger (Pl
 placed p o d ok is hold told = (allowed_ok (checks p.ledger (Place o)) None ok, ap (λ n. (n, 0)) told, ap (λ x. (with_desk p x).ledger) is, refl, refl)
 
 -- a trade comes out at the book as it does at the desk
-pub executed : (p : Point) (t : Trade) (d : Desk) (r : Result (ℕ × ℕ) Refusal) → DeskCalled (holding p.ledger.charge p.ledger.desk) (Execute t) r d → Called p (Execute t) r (with_desk p d)
-executed p t d (Ok v) h = (allowed_ok (checks p.ledger (Execute t)) None h.0, h.1, ap (λ x. (with_desk p x).ledger) h.2, refl, refl)
-executed p t d (Err e) h = (allowed_err (checks p.ledger (Execute t)) None e h.0, ap (with_desk p) h.1)
+pub unexecuted : (p : Point) (t : Trade) (e : Refusal) (d : Desk) → DeskCalled (holding p.ledger.charge p.ledger.desk) (Execute t) (Err e) d → (r : Result (ℕ × ℕ) Refusal) → r ≡ Err e → Called p (Execute t) r (with_desk p d)
+unexecuted p t e d h r is = rw is (allowed_err (checks p.ledger (Execute t)) None e h.0, ap (with_desk p) h.1)
