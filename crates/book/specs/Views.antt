@@ -1,11 +1,8 @@
--- What a book stands for, and what is owed of each call to it. Assumes nothing.
-use Rattle.std.specs.Prelude.{ℕ, Result}
+-- What a book stands for. Assumes nothing.
 use Rattle.keeper.specs.declared.keepers.Registers as registers
 use Rattle.charge.specs.declared.rule.ChargeRule as rule
-use Rattle.rules.specs.declared.refusals.Refusal.{Refusal}
-use Rattle.rules.specs.declared.calls.Call.{Call}
 use Rattle.rules.specs.Limits.{Half, Ledger}
-use Rattle.rules.specs.Runs.{Point, Called}
+use Rattle.rules.specs.Runs.{Point}
 use Rattle.desk.specs.Views.{desk_of}
 use Rattle.book.specs.declared.book.Book.{Book}
 
@@ -14,17 +11,13 @@ module _ {H M G R : Type 0} (h : Half) (m : registers.Ghosts M) (g : registers.G
   abbrev pub ledger_of : Book H M G R → Ledger
   ledger_of b =
       record {
-        top = r.top b.rule;
-        charge = r.charge b.rule;
+        top = r.top b.house.rule;
+        charge = r.charge b.house.rule;
         desk = desk_of h b.desk;
-        money = (m.meaning b.money).amounts;
-        goods = (g.meaning b.goods).amounts;
+        money = (m.meaning b.house.money).amounts;
+        goods = (g.meaning b.house.goods).amounts;
       }
 
   -- the ledger, and what the two keepers mean beside it
   abbrev pub point_of : Book H M G R → Point
-  point_of b = record { ledger = ledger_of b; money = m.meaning b.money; goods = g.meaning b.goods }
-
-  -- a call to a book came out by the rules
-  abbrev pub Calls : Book H M G R → Call → Result (ℕ × ℕ) Refusal → Book H M G R → Type 0
-  Calls b c v b' = Called (point_of b) c v (point_of b')
+  point_of b = record { ledger = ledger_of b; money = m.meaning b.house.money; goods = g.meaning b.house.goods }

@@ -1,19 +1,18 @@
-// What members bring to their accounts, take and shift.
-ghost use Rattle.std.specs.Prelude.{◌≡◌, ◌≤◌, true, OnOk};
-ghost use Rattle.rules.specs.Checks.{checks, stored};
-ghost use Rattle.rules.specs.Limits.{trading};
-ghost use Rattle.rules.specs.Rulings.{allowed};
+// What members bring to their accounts, take and shift. Each call has its numbers one by one, as a line of a sheet.
+ghost use Rattle.std.specs.Prelude.{◌≡◌, ◌≤◌, true};
+ghost use Rattle.rules.specs.Checks.{stored};
 ghost use Rattle.rules.specs.Terms.{good_amount};
 ghost use Rattle.rules.specs.declared.calls.Call.TheVariants.{Deposit, DepositGoods, Shift, Withdraw, WithdrawGoods};
 ghost use Rattle.desk.specs.Called.{alone};
-ghost use Rattle.book.specs.Views.{Calls, ledger_of};
+ghost use Rattle.book.specs.Taking.{Calls, Checked, ledger};
 
 use crate::book::{Book, TradingBook};
 use crate::halves::HalfOfDay;
-use crate::registers::{account_register, stock_register};
+use crate::registers::{Member, Stock};
+use crate::shows::Shows;
 use charge::ChargeRule;
 use keeper::{Entry, Keeper};
-use posting::{enter_goods, enter_money, held};
+use posting::enter;
 use rules::calls::Account;
 use rules::refusals::Refusal;
 use rules::rows::Kind;
@@ -29,59 +28,46 @@ fn is_amount(amount: u64) -> bool
 }
 
 impl<H: HalfOfDay, M: Keeper, G: Keeper, R: ChargeRule> Book<H, M, G, R> {
-    /// What a deposit of money is refused for by the book.
-    fn check_money(&self, member: u64, account: Account, amount: u64) -> Result<(), Refusal>
-        ensures checked { result ≡ allowed (checks (ledger_of (H.half self.now.half) M.Registers G.Registers R.ChargeRule self.now) (Deposit member account amount)) }
-        ensures limits { OnOk result (member ≤ 63) }
+    /// The member who brings money, or what the book refuses a deposit of it for.
+    fn check_money(&self, member: u64, account: Account, amount: u64) -> Result<Member, Refusal>
+        ensures { Checked ⟦<Self as Shows>⟧ self.now (Deposit member account amount) (λ m. m.number ≡ member) result }
     {
-        if !self.knows(member) {
-            return Err(Refusal::UnknownMember);
-        }
+        let member = self.member(member)?;
         if !is_amount(amount) {
             return Err(Refusal::BadValue);
         }
-        Ok(())
+        Ok(member)
     }
 
     /// Brings money to a member's account, and answers the new amount.
     pub fn deposit(&mut self, member: u64, account: Account, amount: u64) -> Result<u64, Refusal>
-        ensures { Calls (H.half self.old.half) M.Registers G.Registers R.ChargeRule self.old (Deposit member account amount) (alone result) self.new }
+        ensures { Calls ⟦<Self as Shows>⟧ self.old (Deposit member account amount) (alone result) self.new }
     {
-        self.check_money(member, account, amount)?;
-        let receiver = account_register(member, account);
-        let held = enter_money(&mut self.money, Entry::Credit { receiver, amount })?;
-        Ok(held)
+        let receiver = self.check_money(member, account, amount)?.account(account);
+        enter(&mut self.house.money, Entry::Credit { receiver, amount }).map_err(Refusal::Money)
     }
 
     /// Whether an instrument's goods are kept in a warehouse.
     fn stores(&self, instrument: u64) -> bool
-        ensures value { result ≡ stored (ledger_of (H.half self.now.half) M.Registers G.Registers R.ChargeRule self.now) instrument }
+        ensures value { result ≡ stored (ledger ⟦<Self as Shows>⟧ self.now) instrument }
         ensures listed { result ≡ true → instrument ≤ 15 }
     {
-        match self.desk.row(instrument) {
-            Some(row) => match row.kind {
-                Kind::Warehouse => true,
-                Kind::Shipment => false,
-            },
-            None => false,
-        }
+        let row = self.desk.row(instrument);
+        row.is_some_and(|row| matches!(row.kind, Kind::Warehouse))
     }
 
-    /// What a deposit of goods is refused for by the book.
-    fn check_goods(&self, member: u64, instrument: u64, kilograms: u64) -> Result<(), Refusal>
-        ensures checked { result ≡ allowed (checks (ledger_of (H.half self.now.half) M.Registers G.Registers R.ChargeRule self.now) (DepositGoods member instrument kilograms)) }
-        ensures limits { OnOk result ((member ≤ 63) × (instrument ≤ 15)) }
+    /// The register's member and instrument, or what the book refuses a deposit of goods for.
+    fn check_goods(&self, member: u64, instrument: u64, kilograms: u64) -> Result<Stock, Refusal>
+        ensures { Checked ⟦<Self as Shows>⟧ self.now (DepositGoods member instrument kilograms) (λ s. (s.member.number ≡ member) × (s.instrument ≡ instrument)) result }
     {
-        if !self.knows(member) {
-            return Err(Refusal::UnknownMember);
-        }
+        let member = self.member(member)?;
         if !self.stores(instrument) {
             return Err(Refusal::NoInstrument);
         }
         if !is_amount(kilograms) {
             return Err(Refusal::BadValue);
         }
-        Ok(())
+        Ok(Stock { member, instrument })
     }
 
     /// Brings goods to a member's register of an instrument, and answers the new amount.
@@ -91,39 +77,35 @@ impl<H: HalfOfDay, M: Keeper, G: Keeper, R: ChargeRule> Book<H, M, G, R> {
         instrument: u64,
         kilograms: u64,
     ) -> Result<u64, Refusal>
-        ensures { Calls (H.half self.old.half) M.Registers G.Registers R.ChargeRule self.old (DepositGoods member instrument kilograms) (alone result) self.new }
+        ensures { Calls ⟦<Self as Shows>⟧ self.old (DepositGoods member instrument kilograms) (alone result) self.new }
     {
-        self.check_goods(member, instrument, kilograms)?;
-        let receiver = stock_register(member, instrument);
+        let receiver = self.check_goods(member, instrument, kilograms)?.register();
         let entry = Entry::Credit {
             receiver,
             amount: kilograms,
         };
-        let held = enter_goods(&mut self.goods, entry)?;
-        Ok(held)
+        enter(&mut self.house.goods, entry).map_err(Refusal::Goods)
     }
 }
 
 impl<M: Keeper, G: Keeper, R: ChargeRule> TradingBook<M, G, R> {
-    /// What a withdrawal or a shift is refused for by the book.
-    fn check_taking(&self, member: u64, account: Account, amount: u64) -> Result<(), Refusal>
-        ensures { result ≡ allowed (checks (ledger_of trading M.Registers G.Registers R.ChargeRule self.now) (Withdraw member account amount)) }
+    /// The member who takes money, or what the book refuses a withdrawal or a shift of it for.
+    fn check_taking(&self, member: u64, account: Account, amount: u64) -> Result<Member, Refusal>
+        ensures { Checked ⟦<Self as Shows>⟧ self.now (Withdraw member account amount) (λ m. m.number ≡ member) result }
     {
-        self.check_money(member, account, amount)?;
+        let member = self.check_money(member, account, amount)?;
         if self.free_money(member, account) < amount as i64 {
             return Err(Refusal::FreeLimit);
         }
-        Ok(())
+        Ok(member)
     }
 
     /// Takes money from a member's account, and answers the new amount.
     pub fn withdraw(&mut self, member: u64, account: Account, amount: u64) -> Result<u64, Refusal>
-        ensures { Calls trading M.Registers G.Registers R.ChargeRule self.old (Withdraw member account amount) (alone result) self.new }
+        ensures { Calls ⟦<Self as Shows>⟧ self.old (Withdraw member account amount) (alone result) self.new }
     {
-        self.check_taking(member, account, amount)?;
-        let giver = account_register(member, account);
-        let held = enter_money(&mut self.money, Entry::Debit { giver, amount })?;
-        Ok(held)
+        let giver = self.check_taking(member, account, amount)?.account(account);
+        enter(&mut self.house.money, Entry::Debit { giver, amount }).map_err(Refusal::Money)
     }
 
     /// Moves money between a member's two accounts, and answers what is then in position and in clearing.
@@ -133,35 +115,34 @@ impl<M: Keeper, G: Keeper, R: ChargeRule> TradingBook<M, G, R> {
         source: Account,
         amount: u64,
     ) -> Result<(u64, u64), Refusal>
-        ensures { Calls trading M.Registers G.Registers R.ChargeRule self.old (Shift member source amount) result self.new }
+        ensures { Calls ⟦<Self as Shows>⟧ self.old (Shift member source amount) result self.new }
     {
-        self.check_taking(member, source, amount)?;
+        let member = self.check_taking(member, source, amount)?;
         let entry = Entry::Transfer {
-            giver: account_register(member, source),
-            receiver: account_register(member, source.other()),
+            giver: member.account(source),
+            receiver: member.account(source.other()),
             amount,
         };
-        enter_money(&mut self.money, entry)?;
-        let position = held(&self.money, account_register(member, Account::Position));
-        let clearing = held(&self.money, account_register(member, Account::Clearing));
+        enter(&mut self.house.money, entry).map_err(Refusal::Money)?;
+        let position = self.amount(member, Account::Position);
+        let clearing = self.amount(member, Account::Clearing);
         Ok((position, clearing))
     }
 
-    /// What a withdrawal of goods is refused for by the book.
+    /// The register's member and instrument, or what the book refuses a withdrawal of goods for.
     fn check_taking_goods(
         &self,
         member: u64,
         instrument: u64,
         kilograms: u64,
-    ) -> Result<(), Refusal>
-        ensures checked { result ≡ allowed (checks (ledger_of trading M.Registers G.Registers R.ChargeRule self.now) (WithdrawGoods member instrument kilograms)) }
-        ensures limits { OnOk result ((member ≤ 63) × (instrument ≤ 15)) }
+    ) -> Result<Stock, Refusal>
+        ensures { Checked ⟦<Self as Shows>⟧ self.now (WithdrawGoods member instrument kilograms) (λ s. (s.member.number ≡ member) × (s.instrument ≡ instrument)) result }
     {
-        self.check_goods(member, instrument, kilograms)?;
-        if self.free_goods(member, instrument) < kilograms as i64 {
+        let stock = self.check_goods(member, instrument, kilograms)?;
+        if self.free_goods(stock) < kilograms as i64 {
             return Err(Refusal::FreeLimit);
         }
-        Ok(())
+        Ok(stock)
     }
 
     /// Takes goods from a member's register, and answers the new amount.
@@ -171,15 +152,15 @@ impl<M: Keeper, G: Keeper, R: ChargeRule> TradingBook<M, G, R> {
         instrument: u64,
         kilograms: u64,
     ) -> Result<u64, Refusal>
-        ensures { Calls trading M.Registers G.Registers R.ChargeRule self.old (WithdrawGoods member instrument kilograms) (alone result) self.new }
+        ensures { Calls ⟦<Self as Shows>⟧ self.old (WithdrawGoods member instrument kilograms) (alone result) self.new }
     {
-        self.check_taking_goods(member, instrument, kilograms)?;
-        let giver = stock_register(member, instrument);
+        let giver = self
+            .check_taking_goods(member, instrument, kilograms)?
+            .register();
         let entry = Entry::Debit {
             giver,
             amount: kilograms,
         };
-        let held = enter_goods(&mut self.goods, entry)?;
-        Ok(held)
+        enter(&mut self.house.goods, entry).map_err(Refusal::Goods)
     }
 }

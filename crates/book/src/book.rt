@@ -1,15 +1,14 @@
 // The book in one half of the day.
 use crate::halves::{Session, Trading};
+use crate::house::House;
 use desk::Desk;
 
-/// The section book: the keepers of money and of goods, the charge rule, and the desk, in a half of the day.
+/// The section book: what it stands on, and the desk, in a half of the day.
 /// A closing takes it and gives the book of the next half.
 #[derive(Drop)]
 pub struct Book<H, M, G, R> {
     pub(crate) half: H,
-    pub(crate) money: M,
-    pub(crate) goods: G,
-    pub(crate) rule: R,
+    pub(crate) house: House<M, G, R>,
     pub(crate) desk: Desk,
 }
 

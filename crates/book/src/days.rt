@@ -1,13 +1,13 @@
 // The opening of the book, and the ends of its halves.
 ghost use Rattle.std.specs.Prelude.{◌≡◌, IfOk, Ok};
 ghost use Rattle.rules.specs.Law.{opened, start};
-ghost use Rattle.rules.specs.Limits.{session, trading};
 ghost use Rattle.rules.specs.Runs.{Called};
 ghost use Rattle.rules.specs.declared.calls.Call.TheVariants.{EndSession, EndTrading};
-ghost use Rattle.book.specs.Views.{point_of};
 
 use crate::book::{Book, SessionBook, TradingBook};
 use crate::halves::{Session, Trading};
+use crate::house::House;
+use crate::shows::Shows;
 use charge::ChargeRule;
 use desk::Desk;
 use keeper::Keeper;
@@ -19,18 +19,14 @@ impl<M: Keeper + Drop, G: Keeper + Drop, R: ChargeRule + Drop> TradingBook<M, G,
     pub fn open(
         heap: Global,
         rows: &[Row],
-        money: M,
-        goods: G,
-        rule: R,
+        house: House<M, G, R>,
     ) -> Result<TradingBook<M, G, R>, AllocError>
-        ensures { IfOk result (λ b. point_of trading M.Registers G.Registers R.ChargeRule b ≡ opened (start M.Registers G.Registers R.ChargeRule rows.now money goods rule)) }
+        ensures { IfOk result (λ b. ⟦<Self as Shows>⟧.point b ≡ opened (start M.Registers G.Registers R.ChargeRule rows.now house.money house.goods house.rule)) }
     {
-        let desk = Desk::open(heap, &rule, rows)?;
+        let desk = Desk::open(heap, &house.rule, rows)?;
         Ok(Book {
             half: Trading,
-            money,
-            goods,
-            rule,
+            house,
             desk,
         })
     }
@@ -39,21 +35,17 @@ impl<M: Keeper + Drop, G: Keeper + Drop, R: ChargeRule + Drop> TradingBook<M, G,
 impl<M: Keeper, G: Keeper, R: ChargeRule> TradingBook<M, G, R> {
     /// Ends the trading: drops each order whose last day is today, and tells how many.
     pub fn end_trading(self) -> (SessionBook<M, G, R>, u64)
-        ensures { Called (point_of trading M.Registers G.Registers R.ChargeRule self) EndTrading (Ok (result.1, 0)) (point_of session M.Registers G.Registers R.ChargeRule result.0) }
+        ensures { Called (⟦<Self as Shows>⟧.point self) EndTrading (Ok (result.1, 0)) (⟦<SessionBook<M, G, R> as Shows>⟧.point result.0) }
     {
         let Book {
             half: _,
-            money,
-            goods,
-            rule,
+            house,
             mut desk,
         } = self;
         let dropped = desk.end_trading();
         let book = Book {
             half: Session,
-            money,
-            goods,
-            rule,
+            house,
             desk,
         };
         (book, dropped)
@@ -63,21 +55,17 @@ impl<M: Keeper, G: Keeper, R: ChargeRule> TradingBook<M, G, R> {
 impl<M: Keeper, G: Keeper, R: ChargeRule> SessionBook<M, G, R> {
     /// Ends the session: gives the next day's trading book.
     pub fn end_session(self) -> TradingBook<M, G, R>
-        ensures { Called (point_of session M.Registers G.Registers R.ChargeRule self) EndSession (Ok (0, 0)) (point_of trading M.Registers G.Registers R.ChargeRule result) }
+        ensures { Called (⟦<Self as Shows>⟧.point self) EndSession (Ok (0, 0)) (⟦<TradingBook<M, G, R> as Shows>⟧.point result) }
     {
         let Book {
             half: _,
-            money,
-            goods,
-            rule,
+            house,
             mut desk,
         } = self;
         desk.end_session();
         Book {
             half: Trading,
-            money,
-            goods,
-            rule,
+            house,
             desk,
         }
     }

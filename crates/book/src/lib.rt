@@ -5,11 +5,15 @@ mod accounts;
 mod book;
 mod days;
 mod halves;
+mod house;
 mod limits;
 mod questions;
 mod registers;
 mod session;
+mod shows;
 mod trading;
 
 pub use book::{Book, SessionBook, TradingBook};
 pub use halves::{HalfOfDay, Session, Trading};
+pub use house::House;
+pub use shows::Shows;

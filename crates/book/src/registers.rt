@@ -5,19 +5,35 @@ ghost use Rattle.rules.specs.Terms.{goods_register, money_register};
 use rules::calls::Account;
 use settling::{goods_register, money_register};
 
-/// The register of an account of a member who can be known.
-pub(crate) fn account_register(member: u64, account: Account) -> usize
-    requires { member ≤ 63 }
-    ensures { result ≡ money_register member account }
-{
-    money_register(member, account)
+/// A member who can be known.
+#[derive(Clone, Copy)]
+pub(crate) struct Member {
+    pub(crate) number: u64,
+    ghost few: { number ≤ 63 },
 }
 
-/// The register of an instrument's goods of such a member.
-pub(crate) fn stock_register(member: u64, instrument: u64) -> usize
-    requires member { member ≤ 63 }
-    requires instrument { instrument ≤ 15 }
-    ensures { result ≡ goods_register member instrument }
-{
-    goods_register(member, instrument)
+impl Member {
+    /// The member's register of an account.
+    pub(crate) fn account(self, account: Account) -> usize
+        ensures { result ≡ money_register self.number account }
+    {
+        money_register(self.number, account)
+    }
+}
+
+/// The goods of such a member, of an instrument that can have a row.
+#[derive(Clone, Copy)]
+pub(crate) struct Stock {
+    pub(crate) member: Member,
+    pub(crate) instrument: u64,
+    ghost few: { instrument ≤ 15 },
+}
+
+impl Stock {
+    /// Their register.
+    pub(crate) fn register(self) -> usize
+        ensures { result ≡ goods_register self.member.number self.instrument }
+    {
+        goods_register(self.member.number, self.instrument)
+    }
 }

@@ -1,20 +1,19 @@
 // What staff bring to a session book: fundings, deliveries and defaults.
-ghost use Rattle.std.specs.Prelude.{◌≡◌, ℕ};
-ghost use Rattle.rules.specs.Checks.{event_checks};
-ghost use Rattle.rules.specs.Limits.{free_clearing, session};
+ghost use Rattle.std.specs.Prelude.{◌≡◌};
+ghost use Rattle.rules.specs.Limits.{free_clearing};
 ghost use Rattle.rules.specs.Settling.{failing};
 ghost use Rattle.rules.specs.declared.calls.Call.TheVariants.{Settle};
 ghost use Rattle.rules.specs.declared.contracts.Event.TheVariants.{Default, Delivery, Funding};
-ghost use Rattle.rules.specs.declared.rows.Row.{Row};
 ghost use Rattle.desk.specs.Called.{alone};
 ghost use Rattle.book.specs.Turning.{TurnsOut};
-ghost use Rattle.book.specs.Views.{Calls, ledger_of};
+ghost use Rattle.book.specs.Taking.{Calls, ledger};
 
 use crate::book::SessionBook;
-use crate::registers::account_register;
+use crate::registers::Member;
+use crate::shows::Shows;
 use charge::ChargeRule;
 use keeper::Keeper;
-use posting::{held, post_moves};
+use posting::post_moves;
 use rules::calls::Account;
 use rules::contracts::{Contract, Event, State};
 use rules::refusals::Refusal;
@@ -31,33 +30,55 @@ fn failing_side(contract: &Contract) -> u64
 }
 
 impl<M: Keeper, G: Keeper, R: ChargeRule> SessionBook<M, G, R> {
+    /// The buyer's free clearing limit; a funding alone asks for it.
+    fn limit_at(&self, event: Event, buyer: Member) -> i64
+        ensures { event ≡ Funding → result ≡ free_clearing (ledger ⟦<Self as Shows>⟧ self.now) buyer.number }
+    {
+        match event {
+            Event::Funding => self.free_money(buyer, Account::Clearing),
+            _ => 0,
+        }
+    }
+
     /// What an event of a live contract comes to before the keepers are asked, or what the book refuses it for.
     fn turn(&self, contract: u64, event: Event) -> Result<Turn, Refusal>
-        ensures { TurnsOut (ledger_of session M.Registers G.Registers R.ChargeRule self.now) contract event result }
+        ensures { TurnsOut (ledger ⟦<Self as Shows>⟧ self.now) contract event result }
     {
-        let Some(found) = self.desk.contract(contract) else {
-            return Err(Refusal::ContractNotLive);
+        let found = self
+            .desk
+            .contract(contract)
+            .ok_or(Refusal::ContractNotLive)?;
+        let buyer = Member {
+            number: found.buyer,
         };
-        let free = self.free_money(found.buyer, Account::Clearing);
-        let failing = failing_side(&found);
-        let amount = held(&self.money, account_register(failing, Account::Position));
-        self.desk.turn(&self.rule, contract, event, free, amount)
+        let failing = Member {
+            number: failing_side(&found),
+        };
+        let free = self.limit_at(event, buyer);
+        let amount = self.amount(failing, Account::Position);
+        self.desk
+            .turn(&self.house.rule, contract, event, free, amount)
     }
 
     /// An event of a live contract: refused by its own state and the day, then by the keepers, which are both
     /// asked before the first entry.
     fn settle(&mut self, contract: u64, event: Event) -> Result<(u64, u64), Refusal>
-        ensures { Calls session M.Registers G.Registers R.ChargeRule self.old (Settle contract event) result self.new }
+        ensures { Calls ⟦<Self as Shows>⟧ self.old (Settle contract event) result self.new }
     {
         let turn = self.turn(contract, event)?;
-        post_moves(&mut self.money, &mut self.goods, turn.money, turn.goods)?;
+        post_moves(
+            &mut self.house.money,
+            &mut self.house.goods,
+            turn.money,
+            turn.goods,
+        )?;
         self.desk.settle(turn);
         Ok((turn.first, turn.second))
     }
 
     /// Funds a contract, and answers its due.
     pub fn fund(&mut self, contract: u64) -> Result<u64, Refusal>
-        ensures { Calls session M.Registers G.Registers R.ChargeRule self.old (Settle contract Funding) (alone result) self.new }
+        ensures { Calls ⟦<Self as Shows>⟧ self.old (Settle contract Funding) (alone result) self.new }
     {
         let (due, _) = self.settle(contract, Event::Funding)?;
         Ok(due)
@@ -65,14 +86,14 @@ impl<M: Keeper, G: Keeper, R: ChargeRule> SessionBook<M, G, R> {
 
     /// Reports kilograms delivered, and answers those counted and the payment for them.
     pub fn deliver(&mut self, contract: u64, kilograms: u64) -> Result<(u64, u64), Refusal>
-        ensures { Calls session M.Registers G.Registers R.ChargeRule self.old (Settle contract (Delivery kilograms)) result self.new }
+        ensures { Calls ⟦<Self as Shows>⟧ self.old (Settle contract (Delivery kilograms)) result self.new }
     {
         self.settle(contract, Event::Delivery { kilograms })
     }
 
     /// Declares a default, and answers what of the penalty is paid and what is not.
     pub fn default(&mut self, contract: u64) -> Result<(u64, u64), Refusal>
-        ensures { Calls session M.Registers G.Registers R.ChargeRule self.old (Settle contract Default) result self.new }
+        ensures { Calls ⟦<Self as Shows>⟧ self.old (Settle contract Default) result self.new }
     {
         self.settle(contract, Event::Default)
     }

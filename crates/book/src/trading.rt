@@ -1,16 +1,17 @@
 // What the exchange brings to a trading book: orders, cancels, trades and ratings.
-ghost use Rattle.std.specs.Prelude.{◌≡◌, ◌≤◌, not, pos, Ok, Err, MatchResult, int_lt};
-ghost use Rattle.rules.specs.Checks.{checks};
-ghost use Rattle.rules.specs.Limits.{is_short, short_below, trading};
-ghost use Rattle.rules.specs.Orders.{is_in_goods, order_hold, order_limit};
-ghost use Rattle.rules.specs.Rulings.{allowed};
+ghost use Rattle.std.specs.Prelude.{◌≡◌, ◌≤◌, not, count_by, pos, int_lt};
+ghost use Rattle.std.specs.List.{range_with_len};
+ghost use Rattle.rules.specs.Limits.{is_short};
+ghost use Rattle.rules.specs.Orders.{order_hold, order_limit};
 ghost use Rattle.rules.specs.declared.calls.Call.TheVariants.{Cancel, Execute, Place, Rerate};
-ghost use Rattle.desk.specs.Called.{alone};
-ghost use Rattle.book.specs.Views.{Calls, ledger_of};
+ghost use Rattle.desk.specs.Called.{Holds, alone, amount_of};
+ghost use Rattle.book.specs.Taking.{Calls, Checked, ledger};
 
 use crate::book::TradingBook;
+use crate::registers::{Member, Stock};
+use crate::shows::Shows;
 use charge::ChargeRule;
-use desk::Admission;
+use desk::Hold;
 use keeper::Keeper;
 use rules::calls::Account;
 use rules::contracts::Trade;
@@ -19,38 +20,38 @@ use rules::refusals::Refusal;
 
 impl<M: Keeper, G: Keeper, R: ChargeRule> TradingBook<M, G, R> {
     /// Whether the free limit that an order would take from goes as far as its hold.
-    fn is_covered(&self, order: &Order, admission: Admission) -> bool
-        requires member { order.now.member ≤ 63 }
+    fn is_covered(&self, member: Member, order: &Order, hold: Hold) -> bool
+        requires member { member.number ≡ order.now.member }
         requires instrument { order.now.instrument ≤ 15 }
-        requires goods { admission.in_goods ≡ is_in_goods (ledger_of trading M.Registers G.Registers R.ChargeRule self.now) order.now }
-        requires hold { admission.hold ≤ 100000000000000 }
-        ensures { result ≡ not (int_lt (order_limit (ledger_of trading M.Registers G.Registers R.ChargeRule self.now) order.now) (pos admission.hold)) }
+        requires register { Holds (ledger ⟦<Self as Shows>⟧ self.now) order.now hold }
+        requires amount { amount_of hold ≤ 100000000000000 }
+        ensures { result ≡ not (int_lt (order_limit (ledger ⟦<Self as Shows>⟧ self.now) order.now) (pos (amount_of hold))) }
     {
-        let free = if admission.in_goods {
-            self.free_goods(order.member, order.instrument)
-        } else {
-            self.free_money(order.member, Account::Position)
+        let free = match hold {
+            Hold::Goods(_) => self.free_goods(Stock {
+                member,
+                instrument: order.instrument,
+            }),
+            Hold::Money(_) => self.free_money(member, Account::Position),
         };
-        free >= admission.hold as i64
+        free >= hold.amount() as i64
     }
 
     /// What an order would hold, or what it is refused for by the book.
     fn check_order(&self, order: &Order) -> Result<u64, Refusal>
-        ensures { MatchResult result (λ hold. (allowed (checks (ledger_of trading M.Registers G.Registers R.ChargeRule self.now) (Place order.now)) ≡ Ok tt) × (hold ≡ order_hold (ledger_of trading M.Registers G.Registers R.ChargeRule self.now) order.now)) (λ e. allowed (checks (ledger_of trading M.Registers G.Registers R.ChargeRule self.now) (Place order.now)) ≡ Err e) }
+        ensures { Checked ⟦<Self as Shows>⟧ self.now (Place order.now) (λ hold. hold ≡ order_hold (ledger ⟦<Self as Shows>⟧ self.now) order.now) result }
     {
-        if !self.knows(order.member) {
-            return Err(Refusal::UnknownMember);
-        }
-        let admission = self.desk.admit(&self.rule, order)?;
-        if !self.is_covered(order, admission) {
+        let member = self.member(order.member)?;
+        let hold = self.desk.admit(&self.house.rule, order)?;
+        if !self.is_covered(member, order, hold) {
             return Err(Refusal::FreeLimit);
         }
-        Ok(admission.hold)
+        Ok(hold.amount())
     }
 
     /// Takes an order, and answers its hold.
     pub fn place(&mut self, order: Order) -> Result<u64, Refusal>
-        ensures { Calls trading M.Registers G.Registers R.ChargeRule self.old (Place order) (alone result) self.new }
+        ensures { Calls ⟦<Self as Shows>⟧ self.old (Place order) (alone result) self.new }
     {
         let hold = self.check_order(&order)?;
         self.desk.place(order)?;
@@ -59,44 +60,38 @@ impl<M: Keeper, G: Keeper, R: ChargeRule> TradingBook<M, G, R> {
 
     /// Takes a live order back, and answers its rest.
     pub fn cancel(&mut self, order: u64) -> Result<u64, Refusal>
-        ensures { Calls trading M.Registers G.Registers R.ChargeRule self.old (Cancel order) (alone result) self.new }
+        ensures { Calls ⟦<Self as Shows>⟧ self.old (Cancel order) (alone result) self.new }
     {
         self.desk.cancel(order)
     }
 
     /// Trades lots of two live orders, and answers what the contract holds of the buyer's money and of the seller's.
     pub fn execute(&mut self, trade: Trade) -> Result<(u64, u64), Refusal>
-        ensures { Calls trading M.Registers G.Registers R.ChargeRule self.old (Execute trade) result self.new }
+        ensures { Calls ⟦<Self as Shows>⟧ self.old (Execute trade) result self.new }
     {
-        let (of_buyer, of_seller) = self.desk.execute(&self.rule, trade)?;
-        Ok((of_buyer, of_seller))
+        self.desk.execute(&self.house.rule, trade)
     }
 
     /// Whether a known member has a demand above 0.
     fn is_short(&self, member: u64) -> bool
-        ensures { result ≡ is_short (ledger_of trading M.Registers G.Registers R.ChargeRule self.now) member }
+        ensures { result ≡ is_short (ledger ⟦<Self as Shows>⟧ self.now) member }
     {
-        self.knows(member) && self.free_money(member, Account::Position) < 0
+        self.member(member)
+            .is_ok_and(|member| self.free_money(member, Account::Position) < 0)
     }
 
     /// How many members have a demand above 0.
     fn short_members(&self) -> u64
-        ensures { result ≡ short_below (ledger_of trading M.Registers G.Registers R.ChargeRule self.now) 64 }
+        ensures { result ≡ count_by (is_short (ledger ⟦<Self as Shows>⟧ self.now)) (range_with_len 0 64) }
     {
-        let mut count: u64 = 0;
-        for member in 0..64 {
-            if self.is_short(member) {
-                count += 1;
-            }
-        }
-        count
+        (0..64).filter(|member| self.is_short(*member)).count() as u64
     }
 
     /// Sets the rate of an instrument, which every hold then follows, and answers how many members have a demand.
     pub fn rerate(&mut self, instrument: u64, rate: u64) -> Result<u64, Refusal>
-        ensures { Calls trading M.Registers G.Registers R.ChargeRule self.old (Rerate instrument rate) (alone result) self.new }
+        ensures { Calls ⟦<Self as Shows>⟧ self.old (Rerate instrument rate) (alone result) self.new }
     {
-        self.desk.rerate(&self.rule, instrument, rate)?;
+        self.desk.rerate(&self.house.rule, instrument, rate)?;
         Ok(self.short_members())
     }
 }

@@ -29,7 +29,7 @@ impl ChargeRule for PercentRule {
         if !is_chargeable(TOP, rate, price, lots) {
             return 0;
         }
-        let each = (price * rate + 9_999) / 10_000;
+        let each = (price * rate).div_ceil(10_000);
         each * lots
     }
 }

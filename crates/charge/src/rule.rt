@@ -11,6 +11,7 @@ pub trait ChargeRule {
     fn top(&self) -> u64
         ensures { result ≡ top self.now };
 
+    // Three numbers: each caller has them from three places, and a struct would only be filled and taken apart.
     fn charge(&self, rate: u64, price: u64, lots: u64) -> u64
         ensures { result ≡ charge self.now rate price lots };
 
@@ -26,9 +27,9 @@ const HIGHEST_PRICE: u64 = 1_000_000_000;
 
 const MOST_LOTS: u64 = 10_000;
 
-/// Whether rate, price and lots are within their limits.
+/// Whether rate, price and lots are within their limits. Each rule asks before it multiplies: no product overflows.
 pub(crate) fn is_chargeable(top: u64, rate: u64, price: u64, lots: u64) -> bool
     ensures { result ≡ chargeable top rate price lots }
 {
-    rate <= top && price >= 1 && price <= HIGHEST_PRICE && lots >= 1 && lots <= MOST_LOTS
+    rate <= top && (1..=HIGHEST_PRICE).contains(&price) && (1..=MOST_LOTS).contains(&lots)
 }

@@ -1,6 +1,7 @@
 // A day sheet from standard input, and its report to standard output.
 #![tactic(auto)]
 
+use book::House;
 use charge::PercentRule;
 use keeper::TableKeeper;
 use report::{ReportLine, run_sheet};
@@ -36,12 +37,11 @@ pub fn run_day(rt: &HostRuntime) -> anyhow::Result<()> {
     let sheet = read_bytes(rt)?;
     let mut money = [0u64; MONEY_REGISTERS];
     let mut goods = [0u64; GOODS_REGISTERS];
-    let report = run_sheet(
-        rt.alloc(),
-        sheet.as_slice(),
-        TableKeeper::open(&mut money),
-        TableKeeper::open(&mut goods),
-        PercentRule,
-    )?;
+    let house = House {
+        money: TableKeeper::open(&mut money),
+        goods: TableKeeper::open(&mut goods),
+        rule: PercentRule,
+    };
+    let report = run_sheet(rt.alloc(), sheet.as_slice(), house)?;
     print_report(rt, report.as_slice())
 }

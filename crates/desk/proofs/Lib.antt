@@ -1,6 +1,5 @@
-pub mod Searches
-pub mod Sums
+pub mod Lists
 pub mod Fitting
 pub mod Openings
-pub mod Counting
-pub mod Changing
+pub mod Holding
+pub mod Searches

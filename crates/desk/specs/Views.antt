@@ -31,6 +31,9 @@ fresh_desk rows = record { half = limits.trading; day = 0; rows = rows; orders =
 abbrev pub holding : Charge → limits.Desk → limits.Ledger
 holding charge d = record { top = 0; charge = charge; desk = d; money = []; goods = [] }
 
--- what one order or contract holds rests on the rows alone
-abbrev pub priced : Charge → List Row → limits.Ledger
-priced charge rows = holding charge (fresh_desk rows)
+-- that ledger of a desk in trading, under a charge rule and under none
+abbrev pub charged : Charge → Desk → limits.Ledger
+charged charge d = holding charge (desk_of limits.trading d)
+
+abbrev pub uncharged : Desk → limits.Ledger
+uncharged d = charged (λ _ _ _. 0) d

@@ -6,10 +6,9 @@ ghost use Rattle.rules.specs.Orders.{ends_on, goes_on};
 ghost use Rattle.desk.specs.Views.{desk_of};
 
 use crate::desk::Desk;
-use crate::lists::{GoesOn, retain};
 
 /// The day stops here.
-const LAST_DAY: u64 = 36_500;
+pub(crate) const LAST_DAY: u64 = 36_500;
 
 impl Desk {
     /// Ends the trading of the day: drops each order whose last day is today, and tells how many.
@@ -18,8 +17,9 @@ impl Desk {
         ensures desk { desk_of session self.new ≡ in_half (desk_of trading self.old) session self.old.day (filter (goes_on self.old.day) self.old.orders.items) }
     {
         let before = self.orders.len();
-        let test = GoesOn { day: self.day };
-        retain(&mut self.orders, &test);
+        let today = self.day;
+        self.orders
+            .retain(|live| live.order.last.is_none_or(|last| last != today));
         (before - self.orders.len()) as u64
     }
 

@@ -1,6 +1,7 @@
 // What a section has besides its keepers.
-ghost use Rattle.std.specs.Prelude.{◌≡◌, ◌≤◌, true, vec_len, vec_capacity};
-ghost use Rattle.desk.specs.Fits.{all_fit, fit_order};
+ghost use Rattle.std.specs.Prelude.{◌≤◌, vec_len, vec_capacity};
+ghost use Rattle.std.specs.List.{AllPass};
+ghost use Rattle.desk.specs.Fits.{fit_order};
 ghost use Rattle.settling.specs.Fits.{fit_contract, fit_row};
 
 use rules::contracts::Contract;
@@ -9,6 +10,9 @@ use rules::rows::Row;
 
 /// The day, the rows in force, what is live, and the last accepted numbers. It has room for 256 orders and 256
 /// contracts from the start, so that no call can want memory.
+///
+/// Orders and contracts stand in the order of their numbers, and are found by going over them: a map would take
+/// memory for each that comes.
 #[derive(Drop)]
 pub struct Desk {
     pub(crate) day: u64,
@@ -22,7 +26,7 @@ pub struct Desk {
     ghost room: { 256 ≤ vec_capacity orders },
     ghost fewer: { vec_len contracts ≤ 256 },
     ghost rooms: { 256 ≤ vec_capacity contracts },
-    ghost listed: { all_fit fit_row rows.items ≡ true },
-    ghost sized: { all_fit fit_order orders.items ≡ true },
-    ghost priced: { all_fit fit_contract contracts.items ≡ true },
+    ghost listed: { AllPass fit_row rows.items },
+    ghost sized: { AllPass fit_order orders.items },
+    ghost priced: { AllPass fit_contract contracts.items },
 }

@@ -1,6 +1,7 @@
 // Finding a row, an order or a contract by its number.
 ghost use Rattle.std.specs.Prelude.{◌≡◌, ℕ, true, IfSome};
-ghost use Rattle.desk.specs.Fits.{all_fit, fit_order};
+ghost use Rattle.std.specs.List.{Contains};
+ghost use Rattle.desk.specs.Fits.{fit_order};
 ghost use Rattle.settling.specs.Fits.{fit_contract, fit_row};
 ghost use Rattle.rules.specs.Terms.{found, found_row};
 ghost use Rattle.rules.specs.Limits.{found_order, found_contract, row_of};
@@ -42,9 +43,11 @@ impl Numbered for Contract {
     }
 }
 
-/// The first of the items with that number.
+/// The first of the items with that number. It is a loop because each hold looks for its row: by the library's
+/// `find` the holds of a full desk take a tenth longer.
 pub(crate) fn find<T: Numbered + Copy>(items: &[T], number: u64) -> Option<T>
-    ensures { result ≡ found T.Numbered.number number items.now }
+    ensures value { result ≡ found T.Numbered.number number items.now }
+    ensures listed { IfSome result (λ x. (T.Numbered.number x ≡ number) × Contains items.now x) }
 {
     for item in items {
         if item.number() == number {
@@ -54,7 +57,7 @@ pub(crate) fn find<T: Numbered + Copy>(items: &[T], number: u64) -> Option<T>
     None
 }
 
-/// What stands for a row that is not there.
+/// What stands for a row that is not there: the rules read it so, and it charges and weighs nothing.
 const NO_ROW: Row = Row {
     number: 0,
     kind: Kind::Shipment,
@@ -63,15 +66,6 @@ const NO_ROW: Row = Row {
     delivery: 0,
     rate: 0,
 };
-
-/// The row of that number, or one with nothing in it.
-pub(crate) fn row_or_none(rows: &[Row], number: u64) -> Row
-    requires { all_fit fit_row rows.now ≡ true }
-    ensures value { result ≡ row_of rows.now number }
-    ensures fit { fit_row result ≡ true }
-{
-    find(rows, number).unwrap_or(NO_ROW)
-}
 
 impl Desk {
     /// The row in force for an instrument.
@@ -96,5 +90,13 @@ impl Desk {
         ensures fit { IfSome result (λ x. (x.trade.contract ≡ number) × (fit_contract x ≡ true)) }
     {
         find(self.contracts.as_slice(), number)
+    }
+
+    /// The row in force for an instrument, or one with nothing in it.
+    pub(crate) fn row_or_none(&self, instrument: u64) -> Row
+        ensures value { result ≡ row_of self.now.rows.items instrument }
+        ensures fit { fit_row result ≡ true }
+    {
+        self.row(instrument).unwrap_or(NO_ROW)
     }
 }

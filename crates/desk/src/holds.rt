@@ -1,14 +1,12 @@
 // What live orders and contracts hold of a member's registers.
 ghost use Rattle.std.specs.Prelude.{◌≡◌, ◌≤◌, true};
-ghost use Rattle.desk.specs.Fits.{all_fit, fit_order};
+ghost use Rattle.desk.specs.Fits.{fit_order};
 ghost use Rattle.settling.specs.Fits.{fit_contract, fit_row};
-ghost use Rattle.desk.specs.Views.{desk_of, holding, priced};
+ghost use Rattle.desk.specs.Views.{charged, uncharged};
 ghost use Rattle.rules.specs.Holds.{order_goods, order_money};
-ghost use Rattle.rules.specs.Limits.{trading, order_on_position, contract_on_position, contract_on_clearing, order_on_goods, contract_on_goods, position_holds, clearing_holds, goods_holds};
+ghost use Rattle.rules.specs.Limits.{order_on_position, contract_on_position, contract_on_clearing, order_on_goods, contract_on_goods, position_holds, clearing_holds, goods_holds};
 
 use crate::desk::Desk;
-use crate::finding::row_or_none;
-use crate::totals::{Hold, total};
 use charge::ChargeRule;
 use rules::contracts::Contract;
 use rules::orders::{LiveOrder, Side};
@@ -39,141 +37,122 @@ pub(crate) fn order_goods(row: &Row, live: &LiveOrder) -> u64
     }
 }
 
-/// Holds on a member's position register.
-#[derive(Drop)]
-struct OnPosition<'a, R> {
-    rule: &'a R,
-    rows: &'a [Row],
-    member: u64,
-    ghost listed: { all_fit fit_row rows.now ≡ true },
-}
-
-impl<R: ChargeRule> Hold<LiveOrder> for OnPosition<'_, R> {
-    ghost taken = { λ h o. order_on_position (priced (R.ChargeRule.charge h.rule.now) h.rows.now) h.member o };
-
-    ghost fit = { fit_order };
-
-    fn taken(&self, live: &LiveOrder) -> u64 {
-        if live.order.member != self.member {
-            return 0;
-        }
-        let row = row_or_none(self.rows, live.order.instrument);
-        order_money(self.rule, &row, live)
+/// What a contract holds of a member's clearing register.
+fn contract_on_clearing(member: u64, contract: &Contract) -> u64
+    requires { fit_contract contract.now ≡ true }
+    ensures value { result ≡ contract_on_clearing member contract.now }
+    ensures bound { result ≤ 200000000000000 }
+{
+    if contract.buyer != member {
+        return 0;
     }
+    due(contract) as u64
 }
 
-impl<R: ChargeRule> Hold<Contract> for OnPosition<'_, R> {
-    ghost taken = { λ h k. contract_on_position (priced (R.ChargeRule.charge h.rule.now) h.rows.now) h.member k };
-
-    ghost fit = { fit_contract };
-
-    fn taken(&self, contract: &Contract) -> u64 {
-        if contract.buyer != self.member && contract.seller != self.member {
+impl Desk {
+    /// What an order holds of a member's position register.
+    fn order_on_position<R: ChargeRule>(&self, rule: &R, member: u64, live: &LiveOrder) -> u64
+        ensures value { result ≡ order_on_position (charged (R.ChargeRule.charge rule.now) self.now) member live.now }
+        ensures bound { result ≤ 200000000000000 }
+    {
+        if live.order.member != member {
             return 0;
         }
-        let row = row_or_none(self.rows, contract.instrument);
-        let of_buyer = if contract.buyer == self.member {
-            buyer_charge(self.rule, &row, contract)
+        order_money(rule, &self.row_or_none(live.order.instrument), live)
+    }
+
+    /// What a contract holds of a member's position register, as its buyer and as its seller.
+    fn contract_on_position<R: ChargeRule>(&self, rule: &R, member: u64, contract: &Contract) -> u64
+        ensures value { result ≡ contract_on_position (charged (R.ChargeRule.charge rule.now) self.now) member contract.now }
+        ensures bound { result ≤ 200000000000000 }
+    {
+        if contract.buyer != member && contract.seller != member {
+            return 0;
+        }
+        let row = self.row_or_none(contract.instrument);
+        let of_buyer = if contract.buyer == member {
+            buyer_charge(rule, &row, contract)
         } else {
             0
         };
-        let of_seller = if contract.seller == self.member {
-            seller_charge(self.rule, &row, contract)
+        let of_seller = if contract.seller == member {
+            seller_charge(rule, &row, contract)
         } else {
             0
         };
         of_buyer + of_seller
     }
-}
 
-/// Holds on a member's clearing register.
-#[derive(Drop)]
-struct OnClearing {
-    member: u64,
-}
-
-impl Hold<Contract> for OnClearing {
-    ghost taken = { λ h k. contract_on_clearing h.member k };
-
-    ghost fit = { fit_contract };
-
-    fn taken(&self, contract: &Contract) -> u64 {
-        if contract.buyer != self.member {
+    /// What an order holds of a member's goods register for an instrument.
+    fn order_on_goods(&self, member: u64, instrument: u64, live: &LiveOrder) -> u64
+        requires { fit_order live.now ≡ true }
+        ensures value { result ≡ order_on_goods (uncharged self.now) member instrument live.now }
+        ensures bound { result ≤ 200000000000000 }
+    {
+        if live.order.member != member || live.order.instrument != instrument {
             return 0;
         }
-        due(contract) as u64
+        order_goods(&self.row_or_none(instrument), live)
     }
-}
 
-/// Holds on a member's goods register for an instrument.
-#[derive(Drop)]
-struct OnGoods<'a> {
-    rows: &'a [Row],
-    member: u64,
-    instrument: u64,
-    ghost listed: { all_fit fit_row rows.now ≡ true },
-}
-
-impl Hold<LiveOrder> for OnGoods<'_> {
-    ghost taken = { λ h o. order_on_goods (priced (λ _ _ _. 0) h.rows.now) h.member h.instrument o };
-
-    ghost fit = { fit_order };
-
-    fn taken(&self, live: &LiveOrder) -> u64 {
-        if live.order.member != self.member || live.order.instrument != self.instrument {
+    /// What a contract holds of a member's goods register for an instrument.
+    fn contract_on_goods(&self, member: u64, instrument: u64, contract: &Contract) -> u64
+        requires { fit_contract contract.now ≡ true }
+        ensures value { result ≡ contract_on_goods (uncharged self.now) member instrument contract.now }
+        ensures bound { result ≤ 200000000000000 }
+    {
+        if contract.seller != member || contract.instrument != instrument {
             return 0;
         }
-        let row = row_or_none(self.rows, live.order.instrument);
-        order_goods(&row, live)
+        kilograms_held(&self.row_or_none(instrument), contract) as u64
     }
-}
 
-impl Hold<Contract> for OnGoods<'_> {
-    ghost taken = { λ h k. contract_on_goods (priced (λ _ _ _. 0) h.rows.now) h.member h.instrument k };
+    // Each sums its own functions over both lists: to pass these to one function is no shorter.
 
-    ghost fit = { fit_contract };
-
-    fn taken(&self, contract: &Contract) -> u64 {
-        if contract.seller != self.member || contract.instrument != self.instrument {
-            return 0;
-        }
-        let row = row_or_none(self.rows, contract.instrument);
-        kilograms_held(&row, contract) as u64
-    }
-}
-
-impl Desk {
     /// All that is held of a member's position register.
-    pub fn position_holds<'a, R: ChargeRule>(&'a self, rule: &'a R, member: u64) -> u64
-        ensures value { result ≡ position_holds (holding (R.ChargeRule.charge rule.now) (desk_of trading self.now)) member }
+    pub fn position_holds<R: ChargeRule>(&self, rule: &R, member: u64) -> u64
+        ensures value { result ≡ position_holds (charged (R.ChargeRule.charge rule.now) self.now) member }
         ensures bound { result ≤ 102400000000000000 }
     {
-        let hold = OnPosition {
-            rule,
-            rows: self.rows.as_slice(),
-            member,
-        };
-        total(self.orders.as_slice(), &hold) + total(self.contracts.as_slice(), &hold)
+        let of_orders: u64 = self
+            .orders
+            .iter()
+            .map(|live| self.order_on_position(rule, member, live))
+            .sum();
+        let of_contracts: u64 = self
+            .contracts
+            .iter()
+            .map(|contract| self.contract_on_position(rule, member, contract))
+            .sum();
+        of_orders + of_contracts
     }
 
     /// All that is held of a member's clearing register.
     pub fn clearing_holds(&self, member: u64) -> u64
-        ensures value { result ≡ clearing_holds (holding (λ _ _ _. 0) (desk_of trading self.now)) member }
+        ensures value { result ≡ clearing_holds (uncharged self.now) member }
         ensures bound { result ≤ 102400000000000000 }
     {
-        total(self.contracts.as_slice(), &OnClearing { member })
+        self.contracts
+            .iter()
+            .map(|contract| contract_on_clearing(member, contract))
+            .sum()
     }
 
     /// All that is held of a member's goods register for an instrument.
     pub fn goods_holds(&self, member: u64, instrument: u64) -> u64
-        ensures value { result ≡ goods_holds (holding (λ _ _ _. 0) (desk_of trading self.now)) member instrument }
+        ensures value { result ≡ goods_holds (uncharged self.now) member instrument }
         ensures bound { result ≤ 102400000000000000 }
     {
-        let hold = OnGoods {
-            rows: self.rows.as_slice(),
-            member,
-            instrument,
-        };
-        total(self.orders.as_slice(), &hold) + total(self.contracts.as_slice(), &hold)
+        let of_orders: u64 = self
+            .orders
+            .iter()
+            .map(|live| self.order_on_goods(member, instrument, live))
+            .sum();
+        let of_contracts: u64 = self
+            .contracts
+            .iter()
+            .map(|contract| self.contract_on_goods(member, instrument, contract))
+            .sum();
+        of_orders + of_contracts
     }
 }

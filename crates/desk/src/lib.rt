@@ -5,13 +5,11 @@ mod days;
 mod desk;
 mod finding;
 mod holds;
-mod lists;
 mod opening;
 mod orders;
-mod totals;
 mod trades;
 mod turns;
 
 pub use desk::Desk;
-pub use orders::Admission;
+pub use orders::Hold;
 pub use settling::{Move, Turn, goods_register, money_register};

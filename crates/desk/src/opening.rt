@@ -1,8 +1,8 @@
 // A desk opens with the rows that can be used.
-ghost use Rattle.std.specs.Prelude.{◌≡◌, true, IfOk};
+ghost use Rattle.std.specs.Prelude.{◌≡◌, IfOk};
+ghost use Rattle.std.specs.List.{AllPass};
 ghost use Rattle.rules.specs.Terms.{good_row, in_force};
 ghost use Rattle.rules.specs.Limits.{trading};
-ghost use Rattle.desk.specs.Fits.{all_fit};
 ghost use Rattle.settling.specs.Fits.{fit_row};
 ghost use Rattle.desk.specs.Views.{admits, desk_of, fresh_desk};
 
@@ -20,8 +20,7 @@ fn is_good(row: &Row, top: u64) -> bool
     ensures { result ≡ good_row top row.now }
 {
     row.number <= 15
-        && row.weight >= 1
-        && row.weight <= 100_000
+        && (1..=100_000).contains(&row.weight)
         && row.funding <= row.delivery
         && row.delivery <= 90
         && row.rate <= top
@@ -37,7 +36,7 @@ fn is_admitted(listed: &[Row], row: &Row, top: u64) -> bool
 /// The rows that can be used: no bad row, and the first of those with one number.
 fn rows_in_force(heap: Global, rows: &[Row], top: u64) -> Result<Vec<Row>, AllocError>
     ensures rows { IfOk result (λ v. v.items ≡ in_force top rows.now) }
-    ensures fit { IfOk result (λ v. all_fit fit_row v.items ≡ true) }
+    ensures fit { IfOk result (λ v. AllPass fit_row v.items) }
 {
     let mut listed: Vec<Row> = Vec::with_capacity(heap, rows.len())?;
     for row in rows {

@@ -1,34 +1,28 @@
 // Trades of two live orders, and ratings.
-ghost use Rattle.std.specs.Prelude.{◌≡◌, ◌<◌, true, map, IfOk, Ok, Err, vec_len, filter, MatchResult};
+ghost use Rattle.std.specs.Prelude.{◌≡◌, ◌<◌, true, map, IfOk, vec_len, filter};
 ghost use Rattle.rules.specs.Checks.{checks};
 ghost use Rattle.rules.specs.Effects.{rerated, with_rows};
 ghost use Rattle.rules.specs.Limits.{trading};
 ghost use Rattle.rules.specs.Orders.{contract_of, fills, has_rest, lowered_by, matching};
-ghost use Rattle.rules.specs.Rulings.{allowed};
 ghost use Rattle.rules.specs.declared.calls.Call.TheVariants.{Execute};
-ghost use Rattle.desk.specs.Called.{DeskCalled, rating_checks};
+ghost use Rattle.desk.specs.Called.{Changes, Checked, DeskCalled, rating_checks};
 ghost use Rattle.settling.specs.Fits.{fit_contract};
-ghost use Rattle.desk.specs.Views.{desk_of, holding};
+ghost use Rattle.desk.specs.Views.{charged, desk_of, uncharged};
 
 use crate::desk::Desk;
-use crate::finding::row_or_none;
-use crate::lists::{Lowered, Rerated, WithRest, change, retain};
 use crate::opening::MOST_LIVE;
 use charge::ChargeRule;
 use rules::contracts::{Contract, State, Trade};
 use rules::orders::{LiveOrder, Order, Side};
 use rules::refusals::Refusal;
+use rules::rows::Row;
 use settling::{buyer_charge, seller_charge};
 
 /// Whether a buy and a sell of one instrument by two members allow a price.
 fn is_match(buy: &Order, sell: &Order, price: u64) -> bool
     ensures { result ≡ matching buy.now sell.now price }
 {
-    let sides = match (buy.side, sell.side) {
-        (Side::Buy, Side::Sell) => true,
-        _ => false,
-    };
-    sides
+    matches!((buy.side, sell.side), (Side::Buy, Side::Sell))
         && buy.instrument == sell.instrument
         && buy.member != sell.member
         && sell.price <= price
@@ -42,18 +36,34 @@ fn is_filled(lots: u64, buy: &LiveOrder, sell: &LiveOrder) -> bool
     lots >= 1 && lots <= buy.rest && lots <= sell.rest
 }
 
+/// Lowers an order's rest by a trade's lots, if the trade names it.
+fn lower(live: &mut LiveOrder, trade: &Trade)
+    ensures { live.new ≡ lowered_by trade.now live.old }
+{
+    if live.order.number == trade.buy || live.order.number == trade.sell {
+        live.rest = live.rest.saturating_sub(trade.lots);
+    }
+}
+
+/// Gives the rows of an instrument another rate.
+fn set_rate(rows: &mut [Row], instrument: u64, rate: u64)
+    ensures { rows.new ≡ map (rerated instrument rate) rows.old }
+{
+    for row in rows.iter_mut() {
+        if row.number == instrument {
+            row.rate = rate;
+        }
+    }
+}
+
 impl Desk {
     /// The contract that a trade makes, or why it is refused.
     fn contract_of(&self, trade: Trade) -> Result<Contract, Refusal>
-        ensures checked { MatchResult result (λ k. (allowed (checks (holding (λ _ _ _. 0) (desk_of trading self.now)) (Execute trade)) ≡ Ok tt) × (k ≡ contract_of (holding (λ _ _ _. 0) (desk_of trading self.now)) trade)) (λ e. allowed (checks (holding (λ _ _ _. 0) (desk_of trading self.now)) (Execute trade)) ≡ Err e) }
+        ensures checked { Checked (checks (uncharged self.now) (Execute trade)) (λ k. k ≡ contract_of (uncharged self.now) trade) result }
         ensures limits { IfOk result (λ k. (fit_contract k ≡ true) × (vec_len self.now.contracts < 256)) }
     {
-        let Some(buy) = self.order(trade.buy) else {
-            return Err(Refusal::OrderNotLive);
-        };
-        let Some(sell) = self.order(trade.sell) else {
-            return Err(Refusal::OrderNotLive);
-        };
+        let buy = self.order(trade.buy).ok_or(Refusal::OrderNotLive)?;
+        let sell = self.order(trade.sell).ok_or(Refusal::OrderNotLive)?;
         if !is_match(&buy.order, &sell.order, trade.price) {
             return Err(Refusal::Mismatch);
         }
@@ -66,7 +76,7 @@ impl Desk {
         if self.contracts.len() >= MOST_LIVE {
             return Err(Refusal::ContractsFull);
         }
-        let row = row_or_none(self.rows.as_slice(), buy.order.instrument);
+        let row = self.row_or_none(buy.order.instrument);
         Ok(Contract {
             trade,
             instrument: buy.order.instrument,
@@ -83,10 +93,10 @@ impl Desk {
     /// Trades lots of two live orders, and answers what the new contract holds: of the buyer's money, and of the
     /// seller's.
     pub fn execute<R: ChargeRule>(&mut self, rule: &R, trade: Trade) -> Result<(u64, u64), Refusal>
-        ensures { DeskCalled (holding (R.ChargeRule.charge rule.now) (desk_of trading self.old)) (Execute trade) result (desk_of trading self.new) }
+        ensures { DeskCalled (charged (R.ChargeRule.charge rule.now) self.old) (Execute trade) result (desk_of trading self.new) }
     {
         let contract = self.contract_of(trade)?;
-        let row = row_or_none(self.rows.as_slice(), contract.instrument);
+        let row = self.row_or_none(contract.instrument);
         let of_buyer = buyer_charge(rule, &row, &contract);
         let of_seller = seller_charge(rule, &row, &contract);
         self.fill(trade);
@@ -100,8 +110,10 @@ impl Desk {
         ensures orders { self.new.orders.items ≡ filter has_rest (map (lowered_by trade) self.old.orders.items) }
         ensures rest { (self.new.day ≡ self.old.day) × (self.new.rows ≡ self.old.rows) × (self.new.contracts ≡ self.old.contracts) × (self.new.last_order ≡ self.old.last_order) × (self.new.last_contract ≡ self.old.last_contract) }
     {
-        change(&mut self.orders, &Lowered { trade });
-        retain(&mut self.orders, &WithRest);
+        self.orders.retain_mut(|live| {
+            lower(live, &trade);
+            live.rest > 0
+        });
     }
 
     /// Sets the rate of an instrument. Every hold follows it.
@@ -111,7 +123,7 @@ impl Desk {
         instrument: u64,
         rate: u64,
     ) -> Result<(), Refusal>
-        ensures { MatchResult result (λ _. (allowed (rating_checks (R.ChargeRule.top rule.now) (desk_of trading self.old) instrument rate) ≡ Ok tt) × (desk_of trading self.new ≡ with_rows (desk_of trading self.old) (map (rerated instrument rate) self.old.rows.items))) (λ e. (allowed (rating_checks (R.ChargeRule.top rule.now) (desk_of trading self.old) instrument rate) ≡ Err e) × (desk_of trading self.new ≡ desk_of trading self.old)) }
+        ensures { Changes (rating_checks (R.ChargeRule.top rule.now) (desk_of trading self.old) instrument rate) (desk_of trading self.old) (with_rows (desk_of trading self.old) (map (rerated instrument rate) self.old.rows.items)) result (desk_of trading self.new) }
     {
         if self.row(instrument).is_none() {
             return Err(Refusal::NoInstrument);
@@ -119,7 +131,7 @@ impl Desk {
         if rate > rule.top() {
             return Err(Refusal::BadValue);
         }
-        change(&mut self.rows, &Rerated { instrument, rate });
+        set_rate(&mut self.rows, instrument, rate);
         Ok(())
     }
 }

@@ -1,17 +1,26 @@
 // Events of the live contracts.
-ghost use Rattle.std.specs.Prelude.{◌≡◌, [], ◌∷◌, ℤ};
-ghost use Rattle.rules.specs.Effects.{settled, with_contracts};
+ghost use Rattle.std.specs.Prelude.{◌≡◌, map};
+ghost use Rattle.rules.specs.Effects.{in_state, settled, with_contracts};
 ghost use Rattle.rules.specs.Limits.{session};
 ghost use Rattle.desk.specs.Turns.{Turns};
 ghost use Rattle.desk.specs.Views.{desk_of};
 
 use crate::desk::Desk;
-use crate::finding::row_or_none;
-use crate::lists::{InState, OtherThan, change, retain};
 use charge::ChargeRule;
-use rules::contracts::Event;
+use rules::contracts::{Contract, Event, State};
 use rules::refusals::Refusal;
 use settling::{Circumstances, Turn, meet};
+
+/// Brings a contract into another state.
+fn set_state(contracts: &mut [Contract], number: u64, state: State)
+    ensures { contracts.new ≡ map (in_state number state) contracts.old }
+{
+    for contract in contracts.iter_mut() {
+        if contract.trade.contract == number {
+            contract.state = state;
+        }
+    }
+}
 
 impl Desk {
     /// What an event of a contract comes to, or why it is refused, by the buyer's free clearing limit and the
@@ -26,12 +35,9 @@ impl Desk {
     ) -> Result<Turn, Refusal>
         ensures { Turns (R.ChargeRule.charge rule.now) (desk_of session self.now) contract event free amount result }
     {
-        let Some(found) = self.contract(contract) else {
-            return Err(Refusal::ContractNotLive);
-        };
-        let row = row_or_none(self.rows.as_slice(), found.instrument);
+        let found = self.contract(contract).ok_or(Refusal::ContractNotLive)?;
         let at = Circumstances {
-            row,
+            row: self.row_or_none(found.instrument),
             day: self.day,
             free,
             amount,
@@ -45,8 +51,10 @@ impl Desk {
     {
         let number = turn.number;
         match turn.state {
-            Some(state) => change(&mut self.contracts, &InState { number, state }),
-            None => retain(&mut self.contracts, &OtherThan { number }),
+            Some(state) => set_state(&mut self.contracts, number, state),
+            None => self
+                .contracts
+                .retain(|contract| contract.trade.contract != number),
         }
     }
 }

@@ -1,8 +1,9 @@
 -- A text and its pieces: one step along it, and from pieces to text and back.
-use Rattle.std.proofs.Common.{◌≡◌, ℕ, ◌+◌, ◌-◌, ◌<◌, Bool, true, false, cond, not, ◌&&◌, eqb, List, [], ◌∷◌, ◌++◌, length, get_or, take, drop, sym, refl, ap, ◌∙◌, subst, append_assoc, append-nil, zero-add, arith, length-append}
+use Rattle.std.proofs.Common.{◌≡◌, ℕ, ◌+◌, ◌-◌, ◌<◌, ◌≤◌, Bool, count_by, true, false, cond, not, ◌&&◌, eqb, List, [], ◌∷◌, ◌++◌, length, get_or, take, drop, sym, refl, ap, ◌∙◌, subst, append_assoc, append-nil, zero-add, arith, length-append}
 use native.Mathlib.Nat.{sub-zero}
 use Rattle.std.proofs.lemmas.List.{take_at, take_rest, length_push}
 use Rattle.std.proofs.lemmas.Bool.{and_parts, eq-eqb, eqb-true, eqb-false, ne_eqb, not-true, cond-true, cond-false, cond_both}
+use Rattle.std.proofs.lemmas.List.Recursion.{is_count_by}
 use Rattle.fields.specs.Pieces.{lacks, pieces, fronted, parts, first_of, others_of, with_commas}
 
 fronted_on : (p : List ℕ) (b : ℕ) (qs : List (List ℕ)) → fronted p (fronted (b ∷ []) qs) ≡ fronted (p ++ b ∷ []) qs
@@ -27,7 +28,7 @@ pub pieces_other : (m b : ℕ) (bs : List ℕ) → (b ≡ m → ⊥) → pieces 
 unfolding pieces
 pieces_other m b bs ne = cond-false _ _ _ (ne_eqb b m ne)
 
--- the first n bytes of the line hold no comma, and left is the rest
+-- the first n bytes of the line hold no mark, and left is the rest
 pub record Along (m : ℕ) (line : List ℕ) (n : ℕ) (left : List ℕ) : Type 0 where
   pub front : List ℕ
   pub split : line ≡ front ++ left
@@ -73,6 +74,16 @@ pub pieces_some : (m : ℕ) (line : List ℕ) → 0 < length (pieces m line)
 unfolding pieces
 pieces_some m [] = omega arith
 pieces_some m (b ∷ bs) = cond_both (eqb b m) ([] ∷ pieces m bs) (fronted (b ∷ []) (pieces m bs)) (λ ps. 0 < length ps) (λ _. omega arith) (λ _. fronted_some (b ∷ []) (pieces m bs))
+
+-- one more than the marks
+count_on : (b : ℕ) (t : Bool) (qs : List (List ℕ)) → 0 < length qs → length (cond t ([] ∷ qs) (fronted (b ∷ []) qs)) - 1 ≡ cond t (1 + (length qs - 1)) (length qs - 1)
+count_on b true qs l = omega arith
+count_on b false [] l = absurd (omega arith)
+count_on b false (q ∷ qs) l = refl
+
+pub pieces_count : (m : ℕ) (bs : List ℕ) → length (pieces m bs) ≡ 1 + count_by (λ b. eqb b m) bs
+unfolding pieces
+pieces_count m bs = omega (arith, pieces_some m bs, is_count_by (λ bs. length (pieces m bs) - 1) (λ b. eqb b m) refl (λ b bs. count_on b (eqb b m) (pieces m bs) (pieces_some m bs)) bs)
 
 -- a text without the mark is one piece, and ends at the mark that follows it
 pub alone : (m : ℕ) (p : List ℕ) → lacks m p ≡ true → pieces m p ≡ p ∷ []

@@ -1,8 +1,9 @@
 -- One line after another.
-use Rattle.std.proofs.Common.{◌≡◌, ℕ, suc, ◌+◌, ◌<◌, ◌≤◌, Bool, true, false, cond, eqb, List, [], ◌∷◌, length, Some, None, Option, unwrap_or, sym, refl, ap, ◌∙◌, arith, Bor}
+use Rattle.std.proofs.Common.{◌≡◌, ℕ, ◌+◌, ◌<◌, ◌≤◌, Bool, true, false, cond, eqb, List, [], ◌∷◌, length, Some, None, Option, unwrap_or, sym, refl, ap, ◌∙◌, arith, Bor}
+use Rattle.std.proofs.lemmas.List.Sums.{count_by-le-length}
 use Rattle.fields.specs.Pieces.{pieces, pieces_after, fronted}
 use Rattle.fields.specs.Sheets.{trimmed, lines_of, LinesLaw}
-use Rattle.fields.proofs.Cuts.{pieces_some, alone, followed}
+use Rattle.fields.proofs.Cuts.{pieces_some, pieces_count, alone, followed}
 
 pub no_line : (bs : List ℕ) → length bs ≡ 0 → lines_of bs ≡ []
 unfolding pieces lines_of
@@ -10,8 +11,8 @@ no_line [] l = refl
 no_line (b ∷ bs) l = absurd (omega arith)
 
 fronted_not : (b : ℕ) (qs : List (List ℕ)) → fronted (b ∷ []) qs ≡ [] ∷ [] → ⊥
-fronted_not b [] e = let z : ◌≡◌ {A = ℕ} 0 1 = cc in omega arith
-fronted_not b (q ∷ qs) e = let z : ◌≡◌ {A = ℕ} 0 1 = cc in omega arith
+fronted_not b [] e = cc
+fronted_not b (q ∷ qs) e = cc
 
 not_nothing : (m b : ℕ) (bs : List ℕ) (t : Bool) → cond t ([] ∷ pieces m bs) (fronted (b ∷ []) (pieces m bs)) ≡ [] ∷ [] → ⊥
 not_nothing m b bs true e = let k : pieces m bs ≡ [] = cc in omega (arith, ap length k, pieces_some m bs)
@@ -40,23 +41,13 @@ lines_law = record {
   open_ended = λ l c some. ap trimmed (alone 10 l c) ∙ trimmed_last l l some (alone 10 l c);
 }
 
-fronted_long : (b : ℕ) (t : Bool) (n : ℕ) (qs : List (List ℕ)) → length qs ≤ n + 1 → length (cond t ([] ∷ qs) (fronted (b ∷ []) qs)) ≤ suc n + 1
-fronted_long b true n qs h = omega arith
-fronted_long b false n [] h = omega arith
-fronted_long b false n (q ∷ qs) h = omega arith
-
-pieces_long : (m : ℕ) (bs : List ℕ) → length (pieces m bs) ≤ length bs + 1
-unfolding pieces
-pieces_long m [] = omega arith
-pieces_long m (b ∷ bs) = fronted_long b (eqb b m) (length bs) (pieces m bs) (pieces_long m bs)
-
 trimmed_long : (ps : List (List ℕ)) → length (trimmed ps) ≤ length ps
 trimmed_long [] = omega arith
 trimmed_long ([] ∷ []) = omega arith
 trimmed_long ((b ∷ p) ∷ []) = omega arith
-trimmed_long (p ∷ q ∷ ps) = let h = trimmed_long (q ∷ ps) in omega arith
+trimmed_long (p ∷ q ∷ ps) = omega (arith, trimmed_long (q ∷ ps))
 
 -- there are hardly more lines than bytes
 pub lines_few : (bs : List ℕ) → length (lines_of bs) ≤ length bs + 1
 unfolding lines_of
-lines_few bs = let h = trimmed_long (pieces 10 bs) in omega (arith, pieces_long 10 bs)
+lines_few bs = omega (arith, trimmed_long (pieces 10 bs), pieces_count 10 bs, count_by-le-length (λ b. eqb b 10) bs)

@@ -1,5 +1,5 @@
 -- The laws of each form: a text is read as a value exactly when it is the value's text; texts are short and have no comma.
-use Rattle.std.proofs.Common.{◌≡◌, ℕ, suc, ◌<◌, ◌≤◌, Bool, true, false, cond, eqb, List, [], ◌∷◌, length, get_or, Some, None, decimal, Option, sym, refl, ap, ◌∙◌, subst, arith}
+use Rattle.std.proofs.Common.{◌≡◌, ℕ, suc, ◌<◌, ◌≤◌, Bool, true, false, cond, eqb, List, [], ◌∷◌, length, get_or, Some, None, decimal, Option, refl, ap, ◌∙◌, subst, arith}
 use Rattle.std.specs.Option.{option_map}
 use Rattle.std.specs.Int.{IsInRange}
 use Rattle.std.proofs.lemmas.Fmt.{decimal_nonempty, digits_decimal, length-decimal-le}
@@ -22,13 +22,13 @@ letter : {X : Type 0} (text : X → List ℕ) (a : ℕ) (x : X) (b : ℕ) (y : X
 letter text a x b y p z tx ty e = by (is_letter a p) (is_letter b p) refl refl e
   where
     by : (s t : Bool) → is_letter a p ≡ s → is_letter b p ≡ t → cond s (Some x) (cond t (Some y) None) ≡ Some z → p ≡ text z
-    by true t h k e = let is : x ≡ z = cc in only a p h ∙ sym tx ∙ ap text is
-    by false true h k e = let is : y ≡ z = cc in only b p k ∙ sym ty ∙ ap text is
-    by false false h k e = let z : ◌≡◌ {A = ℕ} 0 1 = cc in absurd (omega arith)
+    by true t h k e = let is = only a p h in cc
+    by false true h k e = let is = only b p k in cc
+    by false false h k e = cc
 
 day_by : (p : List ℕ) (x : Option ℕ) (t : Bool) (o : Option ℕ) → eqb (length p) 0 ≡ t → number_in p ≡ o → cond t (Some None) (option_map Some o) ≡ Some x → Fits a_last_day x × (p ≡ value_text a_last_day x)
 day_by p x true o s h e = let v : None ≡ x = cc in subst (λ d. Fits a_last_day d × (p ≡ value_text a_last_day d)) v (tt, nil_from_length p (eqb-true _ 0 s))
-day_by p x false None s h e = let z : ◌≡◌ {A = ℕ} 0 1 = cc in absurd (omega arith)
+day_by p x false None s h e = cc
 day_by p x false (Some n) s h e = let v : Some n ≡ x = cc in subst (λ d. Fits a_last_day d × (p ≡ value_text a_last_day d)) v (number_in_gives p n h)
 
 pub gives : (f : Form) (p : List ℕ) (x : Value f) → value_in f p ≡ Some x → Fits f x × (p ≡ value_text f x)
@@ -51,7 +51,7 @@ back a_last_day (Some d) h = cond-false _ _ _ (ne_eqb (length (decimal d)) 0 (λ
 
 -- what is not read is not in the form
 pub misfit : (f : Form) (p : List ℕ) → value_in f p ≡ None → InForm f p → ⊥
-misfit f p e h = let z : ◌≡◌ {A = ℕ} 0 1 = cc (e, ap (value_in f) h.2, back f h.0 h.1) in omega arith
+misfit f p e h = cc (e, ap (value_in f) h.2, back f h.0 h.1)
 
 -- no comma
 digits_lack : (p : List ℕ) → ((i : ℕ) → i < length p → IsInRange 48 57 (get_or p i 0)) → lacks 44 p ≡ true

@@ -1,9 +1,9 @@
 -- What the cursors of a sheet and of a line still have before them. Assumes nothing.
-use Rattle.std.specs.Prelude.{◌≡◌, ℕ, ◌+◌, min, List, Result}
+use Rattle.std.specs.Prelude.{◌≡◌, ℕ, ◌+◌, min, List, Option, Result}
 use Rattle.fields.specs.declared.feeds.Lines.{Lines}
 use Rattle.fields.specs.declared.cursor.Fields.{Fields}
 use Rattle.fields.specs.declared.faults.LineFault.{LineFault}
-use Rattle.fields.specs.Forms.{Form, Value, ReadsAt}
+use Rattle.fields.specs.Forms.{ReadsAt}
 use Rattle.fields.specs.Pieces.{parts_after, first_of, others_of}
 use Rattle.fields.specs.Sheets.{lines_of}
 
@@ -22,8 +22,8 @@ place_of f = f.place
 abbrev pub next_place : ℕ → ℕ
 next_place place = min (place + 1) 255
 
--- the first field is cut off, and r is what it reads as in the form
-pub record Takes (f : Form) (before : Fields) (r : Result (Value f) LineFault) (after : Fields) : Type 0 where
-  pub value : ReadsAt f (first_of (parts_left before)) (place_of before) r
+-- the first field is cut off, and r is the value of its text, or else the fault at its place
+pub record Takes {X : Type 0} (value_of : List ℕ → Option X) (before : Fields) (r : Result X LineFault) (after : Fields) : Type 0 where
+  pub value : ReadsAt value_of (first_of (parts_left before)) (place_of before) r
   pub left : parts_left after ≡ others_of (parts_left before)
   pub place : place_of after ≡ next_place (place_of before)

@@ -86,6 +86,6 @@ value_in a_side p = letter_in 66 Buy 83 Sell p
 value_in a_kind p = letter_in 87 Warehouse 83 Shipment p
 value_in a_last_day p = cond (length p == 0) (Some None) (option_map Some (number_in p))
 
--- r is the value of the text in the form, or else the fault at the field's place
-abbrev pub ReadsAt : (f : Form) → List ℕ → ℕ → Result (Value f) LineFault → Type 0
-ReadsAt f p place r = results.MatchResult r (λ x. value_in f p ≡ Some x) (λ e. (value_in f p ≡ None) × (e ≡ NotInForm place))
+-- r is the value of the text, or else the fault at the field's place
+abbrev pub ReadsAt : {X : Type 0} → (List ℕ → Option X) → List ℕ → ℕ → Result X LineFault → Type 0
+ReadsAt value_of p place r = results.MatchResult r (λ x. value_of p ≡ Some x) (λ e. (value_of p ≡ None) × (e ≡ NotInForm place))

@@ -6,6 +6,8 @@ ghost use Rattle.fields.specs.Pieces.{pieces, pieces_after};
 pub fn cut<'a>(mark: u8, text: &'a [u8]) -> (&'a [u8], Option<&'a [u8]>)
     ensures { pieces mark text.now ≡ result.0.now ∷ pieces_after mark result.1 }
 {
+    // By the first byte and the rest, with a count beside it: by `position`, or by what is left at the end, a long
+    // piece takes longer.
     let mut n = 0;
     let mut left = text;
     while let [first, rest @ ..] = left {

@@ -1,5 +1,6 @@
 // The lines of a sheet, one after the other.
-ghost use Rattle.std.specs.Prelude.{◌≡◌, [], ◌∷◌, MatchOption};
+ghost use Rattle.std.specs.Prelude.{◌≡◌, ◌+◌, ◌≤◌, length};
+ghost use Rattle.std.specs.Iterator.{YieldsFirstRef, item_count};
 ghost use Rattle.fields.specs.Cursors.{lines_left};
 ghost use Rattle.fields.specs.Sheets.{lines_of, LinesLaw};
 
@@ -15,15 +16,22 @@ impl<'a> Lines<'a> {
     /// The lines of a whole sheet.
     pub fn of(sheet: &'a [u8]) -> Lines<'a>
         ensures all { lines_left result ≡ lines_of sheet.now }
+        ensures few { length (lines_of sheet.now) ≤ length sheet.now + 1 }
         ensures law { LinesLaw }
     {
         Lines { left: sheet }
     }
+}
 
-    /// The next line, without its feed.
-    pub fn next(&mut self) -> Option<&'a [u8]>
-        ensures { MatchOption result ((lines_left self.old ≡ []) × (lines_left self.new ≡ [])) (λ l. lines_left self.old ≡ l.now ∷ lines_left self.new) }
-    {
+/// The lines come without their feeds.
+impl<'a> Iterator for Lines<'a> {
+    type Item = &'a [u8];
+
+    ghost next_gives = { YieldsFirstRef lines_left };
+
+    ghost remaining = { item_count lines_left };
+
+    fn next(&mut self) -> Option<&'a [u8]> {
         let [_, ..] = self.left else {
             return None;
         };

@@ -5,6 +5,7 @@ mod cursor;
 mod cutting;
 mod faults;
 mod feeds;
+mod forms;
 mod numerals;
 mod tokens;
 
@@ -12,3 +13,4 @@ pub use cursor::Fields;
 pub use cutting::cut;
 pub use faults::LineFault;
 pub use feeds::Lines;
+pub use forms::FieldValue;

@@ -9,18 +9,13 @@ pub(crate) fn number(text: &[u8]) -> Option<u64>
     ensures { ReadsNumber text.now result }
 {
     match text {
-        [] => None,
-        [b'0', _, ..] => None,
+        [] | [b'0', _, ..] => None,
+        _ if text.len() > MOST_DIGITS => None,
         _ => {
-            if text.len() > MOST_DIGITS {
-                return None;
-            }
+            // The library's parser also takes a sign and zeros in front, and takes three times as long.
             let mut n = 0;
             for b in text {
-                if !b.is_ascii_digit() {
-                    return None;
-                }
-                n = n * 10 + u64::from(*b - b'0');
+                n = n * 10 + u64::from(char::from(*b).to_digit(10)?);
             }
             Some(n)
         }

@@ -54,6 +54,7 @@ pub enum KeeperFault {
 }
 
 impl KeeperFault {
+    /// The number of the fault. A match, so that each stands beside its cause.
     pub fn number(self) -> u64
         ensures { result ≡ number self }
     {

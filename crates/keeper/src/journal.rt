@@ -17,6 +17,7 @@ const PLACES: usize = 65_535;
 /// what went out; each entry needs a place, and the places beyond the last that it may write stay as they are.
 #[derive(Drop)]
 pub struct JournalKeeper<'a> {
+    // All of the memory that the caller lends, with two lengths: `open` and `post` say what becomes of its end too.
     places: &'a mut [Entry],
     room: usize,
     written: usize,
@@ -34,8 +35,8 @@ impl<'a> JournalKeeper<'a> {
     pub fn open(places: &'a mut [Entry], registers: usize) -> JournalKeeper<'a>
         ensures places { result.places.now ≡ places.old }
         ensures written { result.written ≡ 0 }
-        ensures amounts { (journaled result.registers result.room result.written result.places.now).amounts ≡ replicate (min registers 1024) 0 }
-        ensures spare { (journaled result.registers result.room result.written result.places.now).spare ≡ min (length places.old) 65535 }
+        ensures amounts { (⟦<Self as Registers>⟧.meaning result).amounts ≡ replicate (min registers 1024) 0 }
+        ensures spare { (⟦<Self as Registers>⟧.meaning result).spare ≡ min (length places.old) 65535 }
     {
         let room = places.len().min(PLACES);
         JournalKeeper {
@@ -56,7 +57,7 @@ impl<'a> JournalKeeper<'a> {
             written,
             ..
         } = self;
-        &places[0..written]
+        &places[..written]
     }
 }
 
@@ -72,15 +73,15 @@ impl Registers for JournalKeeper<'_> {
     }
 
     fn amount(&self, register: usize) -> Result<u64, KeeperFault>
-        ensures answer { result ≡ amount_at (journaled self.now.registers self.now.room self.now.written self.now.places.now) register }
+        ensures answer { result ≡ amount_at (⟦<Self as Registers>⟧.meaning self.now) register }
         ensures flows { MatchResult result (λ a. a + went_out register (take self.now.written self.now.places.now) ≡ came_in register (take self.now.written self.now.places.now)) (λ _. self.now.registers ≤ register) }
     {
         if register >= self.registers {
             return Err(KeeperFault::NoRegister);
         }
         let mut held: u64 = 0;
-        for i in 0..self.written {
-            held = held_after(register, held, self.places[i]);
+        for entry in &self.places[..self.written] {
+            held = held_after(register, held, *entry);
         }
         Ok(held)
     }
@@ -96,8 +97,8 @@ impl Registers for JournalKeeper<'_> {
 
 impl Keeper for JournalKeeper<'_> {
     fn post(&mut self, entry: Entry) -> Result<(), KeeperFault>
-        ensures answer { result ≡ verdict (journaled self.old.registers self.old.room self.old.written self.old.places.now) entry }
-        ensures follows { Follows (journaled self.old.registers self.old.room self.old.written self.old.places.now) entry result (journaled self.new.registers self.new.room self.new.written self.new.places.now) }
+        ensures answer { result ≡ verdict (⟦<Self as Registers>⟧.meaning self.old) entry }
+        ensures follows { Follows (⟦<Self as Registers>⟧.meaning self.old) entry result (⟦<Self as Registers>⟧.meaning self.new) }
         ensures places { self.new.places.now ≡ written_down result self.old.written entry self.old.places.now }
     {
         let total = self.total;

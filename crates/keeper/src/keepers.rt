@@ -1,8 +1,9 @@
 // The interface of a keeper: questions that leave it, and the posting of an entry.
-ghost use Rattle.std.specs.Prelude.{◌≡◌, ℕ, ◌≤◌, length, sum};
+ghost use Rattle.std.specs.Prelude.{◌≡◌, ℕ, ◌≤◌, ◌==◌, ◌||◌, if◌then◌else◌, length, nat_lt, sum};
 ghost use Rattle.keeper.specs.Meaning.{Judges, Meaning, limit, verdict, amount_at, Follows};
 ghost use Rattle.keeper.specs.declared.entries.Entry.{Entry};
 ghost use Rattle.keeper.specs.declared.entries.Entry.TheVariants.{Transfer};
+ghost use Rattle.keeper.specs.declared.entries.KeeperFault.TheVariants.{BadAmount, NoSpare};
 
 use crate::entries::{Entry, KeeperFault, LIMIT};
 
@@ -37,6 +38,26 @@ pub trait Keeper: Registers {
         ensures follows { Follows (Self.Registers.meaning self.old) entry result (Self.Registers.meaning self.new) };
 }
 
+/// An amount is from 1 to the limit.
+fn vet_amount(amount: u64) -> Result<(), KeeperFault>
+    ensures { result ≡ (if amount == 0 || nat_lt limit amount then Err BadAmount else Ok tt) }
+{
+    if amount == 0 || amount > LIMIT {
+        return Err(KeeperFault::BadAmount);
+    }
+    Ok(())
+}
+
+/// A keeper has room for an entry where its need is not above the spare.
+fn vet_room<K: Registers>(keeper: &K, entry: Entry) -> Result<(), KeeperFault>
+    ensures { result ≡ (if nat_lt (K.meaning keeper.now).spare ((K.meaning keeper.now).need entry) then Err NoSpare else Ok tt) }
+{
+    if keeper.need(entry) > keeper.spare() {
+        return Err(KeeperFault::NoSpare);
+    }
+    Ok(())
+}
+
 /// What a keeper has to say to a transfer; nothing is posted.
 pub fn vet_transfer<K: Registers>(
     keeper: &K,
@@ -51,9 +72,7 @@ pub fn vet_transfer<K: Registers>(
     if receiver >= keeper.count() {
         return Err(KeeperFault::NoRegister);
     }
-    if amount == 0 || amount > LIMIT {
-        return Err(KeeperFault::BadAmount);
-    }
+    vet_amount(amount)?;
     if giver == receiver {
         return Err(KeeperFault::SameRegister);
     }
@@ -65,10 +84,7 @@ pub fn vet_transfer<K: Registers>(
         receiver,
         amount,
     };
-    if keeper.need(entry) > keeper.spare() {
-        return Err(KeeperFault::NoSpare);
-    }
-    Ok(())
+    vet_room(keeper, entry)
 }
 
 /// What a keeper has to say to an entry, with all its amounts together at hand.
@@ -82,18 +98,14 @@ pub(crate) fn vet<K: Registers>(keeper: &K, total: u64, entry: Entry) -> Result<
             if receiver >= keeper.count() {
                 return Err(KeeperFault::NoRegister);
             }
-            if amount == 0 || amount > LIMIT {
-                return Err(KeeperFault::BadAmount);
-            }
+            vet_amount(amount)?;
             if amount > LIMIT - total {
                 return Err(KeeperFault::TooMuch);
             }
         }
         Entry::Debit { giver, amount } => {
             let held = keeper.amount(giver)?;
-            if amount == 0 || amount > LIMIT {
-                return Err(KeeperFault::BadAmount);
-            }
+            vet_amount(amount)?;
             if held < amount {
                 return Err(KeeperFault::TooLittle);
             }
@@ -104,8 +116,5 @@ pub(crate) fn vet<K: Registers>(keeper: &K, total: u64, entry: Entry) -> Result<
             amount,
         } => return vet_transfer(keeper, giver, receiver, amount),
     }
-    if keeper.need(entry) > keeper.spare() {
-        return Err(KeeperFault::NoSpare);
-    }
-    Ok(())
+    vet_room(keeper, entry)
 }

@@ -12,6 +12,7 @@ const REGISTERS: usize = 1024;
 /// A keeper whose amounts are the first places of a list; it always has room, and leaves the other places alone.
 #[derive(Drop)]
 pub struct TableKeeper<'a> {
+    // All of the memory that the caller lends, with a length: `open` and `post` say what becomes of its end too.
     places: &'a mut [u64],
     registers: usize,
     total: u64,
@@ -25,10 +26,10 @@ impl<'a> TableKeeper<'a> {
     pub fn open(places: &'a mut [u64]) -> TableKeeper<'a>
         ensures count { result.registers ≡ min (length places.old) 1024 }
         ensures places { result.places.now ≡ replicate result.registers 0 ++ drop result.registers places.old }
-        ensures amounts { (tabled (take result.registers result.places.now)).amounts ≡ replicate (min (length places.old) 1024) 0 }
+        ensures amounts { (⟦<Self as Registers>⟧.meaning result).amounts ≡ replicate (min (length places.old) 1024) 0 }
     {
         let registers = places.len().min(REGISTERS);
-        clear(places, registers);
+        places[..registers].fill(0);
         TableKeeper {
             places,
             registers,
@@ -71,10 +72,10 @@ impl Registers for TableKeeper<'_> {
     }
 
     fn amount(&self, register: usize) -> Result<u64, KeeperFault> {
-        if register >= self.registers {
-            return Err(KeeperFault::NoRegister);
-        }
-        Ok(self.places[register])
+        self.places[..self.registers]
+            .get(register)
+            .copied()
+            .ok_or(KeeperFault::NoRegister)
     }
 
     fn spare(&self) -> u64 {
@@ -88,8 +89,8 @@ impl Registers for TableKeeper<'_> {
 
 impl Keeper for TableKeeper<'_> {
     fn post(&mut self, entry: Entry) -> Result<(), KeeperFault>
-        ensures answer { result ≡ verdict (tabled (take self.old.registers self.old.places.now)) entry }
-        ensures follows { Follows (tabled (take self.old.registers self.old.places.now)) entry result (tabled (take self.new.registers self.new.places.now)) }
+        ensures answer { result ≡ verdict (⟦<Self as Registers>⟧.meaning self.old) entry }
+        ensures follows { Follows (⟦<Self as Registers>⟧.meaning self.old) entry result (⟦<Self as Registers>⟧.meaning self.new) }
         ensures rest { drop self.new.registers self.new.places.now ≡ drop self.old.registers self.old.places.now }
     {
         let total = self.total;
@@ -107,15 +108,5 @@ impl Keeper for TableKeeper<'_> {
             }
         }
         Ok(())
-    }
-}
-
-/// Sets the first places to 0, and leaves the others.
-fn clear(places: &mut [u64], count: usize)
-    requires { count ≤ length places.old }
-    ensures { places.new ≡ replicate count 0 ++ drop count places.old }
-{
-    for i in 0..count {
-        places[i] = 0;
     }
 }

@@ -1,12 +1,12 @@
 -- A step leaves the ledger, or accepts one call: what the opening has and accepted calls keep holds after every run.
-use Rattle.std.proofs.Common.{◌≡◌, Bool, true, false, cond, not, ◌&&◌, List, [], ◌∷◌, ◌++◌, is_some, Some, None, Option, Result, refl, append_assoc, append-nil}
+use Rattle.std.proofs.Common.{◌≡◌, Bool, true, false, cond, not, ◌&&◌, List, [], ◌∷◌, ◌++◌, is_some, Some, None, Option, Result, refl, append_assoc, append-nil, Ok, Err}
 use Rattle.rules.specs.declared.refusals.Refusal.{Refusal}
 use Rattle.rules.specs.declared.calls.Call.{Call}
 use Rattle.rules.specs.declared.calls.Question.{Question}
 use Rattle.rules.specs.declared.calls.Reply.{Reply}
 use Rattle.rules.specs.declared.calls.Request.{Request}
 use Rattle.rules.specs.declared.calls.Request.TheVariants.{Make, Ask}
-use Rattle.rules.specs.declared.calls.Told.TheVariants.{Misplaced}
+use Rattle.rules.specs.declared.calls.RequestFault.TheVariants.{Misplaced}
 use Rattle.rules.specs.Limits.{Ledger}
 use Rattle.rules.specs.Rulings.{Feed, ruling}
 use Rattle.rules.specs.Effects.{after, answer}
@@ -28,7 +28,7 @@ Keeps I = (past : List Done) (b : Ledger) (c : Call) → takes b.desk.half c ≡
 
 made_keeps : (I : Property) → Keeps I → (past : List Done) (b : Ledger) (f : Feed) (c : Call) → I past b →
     (t : Bool) → takes b.desk.half c ≡ t → (e : Option Refusal) → ruling b f c ≡ e →
-    I (past ++ done_by (Make c) (cond t (ruled_as e (answer b c)) Misplaced)) (cond (t && not (is_some e)) (after b c) b)
+    I (past ++ done_by (Make c) (cond t (ruled_as e (answer b c)) (Err Misplaced))) (cond (t && not (is_some e)) (after b c) b)
 made_keeps I keeps past b f c i true t None e = keeps past b c t (accepts_when b f c e) i
 made_keeps I keeps past b f c i true t (Some x) e = rw append-nil i
 made_keeps I keeps past b f c i false t e r = rw append-nil i

@@ -7,15 +7,11 @@ use charge::ChargeRule;
 use keeper::Registers;
 
 /// Every run from a start with a fair charge keeps the law.
-pub fn runs_are_lawful() -> u8
+pub fn runs_are_lawful()
     ensures { RunsAreLawful }
-{
-    0
-}
+{}
 
 /// Every run that these keepers and this rule begin keeps the law, whatever the rows.
-pub fn lawful_from<M: Registers, G: Registers, R: ChargeRule>(money: &M, goods: &G, rule: &R) -> u8
+pub fn lawful_from<M: Registers, G: Registers, R: ChargeRule>(money: &M, goods: &G, rule: &R)
     ensures { LawfulFrom M.Registers G.Registers R.ChargeRule money.now goods.now rule.now }
-{
-    0
-}
+{}

@@ -4,5 +4,5 @@
 mod entering;
 mod moving;
 
-pub use entering::{enter_goods, enter_money, held};
+pub use entering::{enter, held};
 pub use moving::post_moves;

@@ -1,11 +1,10 @@
 // What an event of a contract moves, at both keepers or at neither.
-ghost use Rattle.std.specs.Prelude.{◌≡◌};
 ghost use Rattle.std.specs.Option.{option_map};
 ghost use Rattle.settling.specs.Meeting.{entry_of};
-ghost use Rattle.posting.specs.Entered.{GoodsAllows, MoneyAllows, Moved};
+ghost use Rattle.posting.specs.Entered.{Allows, Moved};
 
-use keeper::{Entry, Keeper, vet_transfer};
-use rules::refusals::{GoodsFault, MoneyFault, Refusal};
+use keeper::{Keeper, Registers, vet_transfer};
+use rules::refusals::{EntryFault, Refusal};
 use settling::Move;
 
 /// Moves money and goods, each if there is something to move. Both keepers are asked before the first entry.
@@ -17,55 +16,26 @@ pub fn post_moves<M: Keeper, G: Keeper>(
 ) -> Result<(), Refusal>
     ensures { Moved (M.Registers.meaning money.old) (G.Registers.meaning goods.old) (option_map entry_of payment) (option_map entry_of shipment) result (M.Registers.meaning money.new) (G.Registers.meaning goods.new) }
 {
-    ask_money(money, payment)?;
-    ask_goods(goods, shipment)?;
+    ask(money, payment).map_err(Refusal::Money)?;
+    ask(goods, shipment).map_err(Refusal::Goods)?;
     if let Some(m) = payment {
-        let _ = money.post(entry_of(m));
+        let _ = money.post(m.into());
     }
     if let Some(m) = shipment {
-        let _ = goods.post(entry_of(m));
+        let _ = goods.post(m.into());
     }
     Ok(())
 }
 
-fn entry_of(m: Move) -> Entry
-    ensures { result ≡ entry_of m }
+/// What a keeper has to say to a move.
+fn ask<K: Registers>(keeper: &K, entry: Option<Move>) -> Result<(), EntryFault>
+    ensures { Allows (K.Registers.meaning keeper.now) entry result }
 {
-    Entry::Transfer {
-        giver: m.giver,
-        receiver: m.receiver,
-        amount: m.amount,
-    }
-}
-
-/// What the money keeper has to say to a move.
-fn ask_money<M: Keeper>(money: &M, payment: Option<Move>) -> Result<(), MoneyFault>
-    ensures { MoneyAllows (M.Registers.meaning money.now) payment result }
-{
-    let Some(m) = payment else {
+    let Some(m) = entry else {
         return Ok(());
     };
-    match vet_transfer(money, m.giver, m.receiver, m.amount) {
-        Ok(()) => Ok(()),
-        Err(fault) => Err(MoneyFault {
-            fault,
-            register: m.receiver,
-        }),
-    }
-}
-
-/// What the goods keeper has to say to a move.
-fn ask_goods<G: Keeper>(goods: &G, shipment: Option<Move>) -> Result<(), GoodsFault>
-    ensures { GoodsAllows (G.Registers.meaning goods.now) shipment result }
-{
-    let Some(m) = shipment else {
-        return Ok(());
-    };
-    match vet_transfer(goods, m.giver, m.receiver, m.amount) {
-        Ok(()) => Ok(()),
-        Err(fault) => Err(GoodsFault {
-            fault,
-            register: m.receiver,
-        }),
-    }
+    vet_transfer(keeper, m.giver, m.receiver, m.amount).map_err(|fault| EntryFault {
+        fault,
+        register: m.receiver,
+    })
 }

@@ -1,3 +1,2 @@
-pub mod Notings
 pub mod Picking
 pub mod Reporting

@@ -1,36 +1,27 @@
 -- The report of a sheet. Assumes nothing.
-use Rattle.std.specs.Prelude.{◌≡◌, ℕ, zero, suc, ◌+◌, Bool, true, false, cond, ◌&&◌, ◌||◌, List, [], ◌∷◌, ◌++◌, length, pos, Ok, Err, Result, int_lt, nat_lt, slice_index_or}
+use Rattle.std.specs.Prelude.{◌≡◌, ℕ, zero, suc, ◌+◌, Bool, true, false, cond, ◌&&◌, ◌||◌, List, [], ◌∷◌, ◌++◌, drop, length, pos, Ok, Err, Result, int_lt, nat_lt, slice_index_or}
 use Rattle.std.specs.List.{flat_map}
-use Rattle.keeper.specs.declared.keepers.Registers as registers
-use Rattle.charge.specs.declared.rule.ChargeRule as rule
 use Rattle.fields.specs.Sheets.{lines_of}
 use Rattle.sheet.specs.declared.outcome.Line.{Line}
 use Rattle.sheet.specs.declared.outcome.Line.TheVariants.{Instrument, Call}
-use Rattle.rules.specs.Law.{RunLaw, start}
+use Rattle.rules.specs.Law.{RunLaw, Start}
+use Rattle.rules.specs.declared.rows.Row.{Row}
 use Rattle.rules.specs.Limits.{Ledger, clearing, free_clearing, free_position, known, position}
-use Rattle.rules.specs.Runs.{Point}
-use Rattle.rules.specs.declared.refusals.Refusal.{Refusal}
-use Rattle.rules.specs.declared.calls.Told.{Told}
-use Rattle.rules.specs.declared.calls.Told.TheVariants as told
+use Rattle.rules.specs.Runs.{Told, Point}
+use Rattle.rules.specs.declared.calls.Answer.TheVariants as told
+use Rattle.rules.specs.declared.calls.RequestFault.TheVariants as request
 use Rattle.report.specs.declared.faults.SheetFault.{SheetFault}
 use Rattle.report.specs.declared.faults.SheetFault.TheVariants as faults
 use Rattle.report.specs.declared.lines.ReportLine.{ReportLine}
 use Rattle.report.specs.declared.lines.ReportLine.TheVariants.{Accepted, Refused, Member}
-use Rattle.report.specs.Notes.{notes_from, opened_after, request_in, row_in, shown}
+use Rattle.report.specs.Notes.{fault_of, notes_from, opened_after, request_in, row_in, shown}
+use Rattle.report.specs.Texts.{report_text}
 
 -- what is told of a call: its two answers, or its fault
 abbrev pub answers : Told → Result (ℕ × ℕ) SheetFault
-answers (told.Accepted x y) = Ok (x, y)
-answers (told.Replied r) = Ok (0, 0)
-answers (told.Refused e) = Err (faults.Refused e)
-answers told.Misplaced = Err faults.Misplaced
-
--- the answers of a call that the book does not refuse
-abbrev pub taken : Told → Result (ℕ × ℕ) Refusal
-taken (told.Accepted x y) = Ok (x, y)
-taken (told.Replied r) = Ok (0, 0)
-taken (told.Refused e) = Err e
-taken told.Misplaced = Ok (0, 0)
+answers (Ok (told.Accepted x y)) = Ok (x, y)
+answers (Ok (told.Replied r)) = Ok (0, 0)
+answers (Err e) = Err (fault_of e)
 
 -- what becomes of a line: a row answers 0 and 0, a call what was told of it
 abbrev pub becomes : Result Line SheetFault → Told → Result (ℕ × ℕ) SheetFault
@@ -42,10 +33,17 @@ abbrev pub line_of : ℕ → Result (ℕ × ℕ) SheetFault → ReportLine
 line_of n (Ok v) = Accepted n v.0 v.1
 line_of n (Err f) = Refused n (shown f)
 
+-- what was told of the first call that is still to come, and what is left of it after a line
+abbrev pub first : List Told → Told
+first ts = slice_index_or ts 0 (Err request.Misplaced)
+
+abbrev pub left_after : Result Line SheetFault → List Told → List Told
+left_after note ts = drop (length (request_in note)) ts
+
 -- a line for each line of the sheet from the n-th on; the k-th thing told is of the first call among them
 abbrev pub lines_report : ℕ → ℕ → List (Result Line SheetFault) → List Told → List ReportLine
 lines_report n k [] ts = []
-lines_report n k (note ∷ notes) ts = line_of n (becomes note (slice_index_or ts k told.Misplaced)) ∷ lines_report (n + 1) (k + length (request_in note)) notes ts
+lines_report n k (note ∷ notes) ts = line_of n (becomes note (slice_index_or ts k (Err request.Misplaced))) ∷ lines_report (n + 1) (k + length (request_in note)) notes ts
 
 -- a known member with money, or a free position limit that is not 0
 abbrev pub is_listed : Ledger → ℕ → Bool
@@ -70,21 +68,27 @@ notes_of bytes = notes_from false (lines_of bytes)
 abbrev pub report_of : List ℕ → List Told → Ledger → List ReportLine
 report_of bytes ts b = lines_report 1 0 (notes_of bytes) ts ++ cond (opened_after false (lines_of bytes)) (members_below b 64) []
 
--- a run of the sheet's rows and calls that keeps the law of whole runs, reported line by line
-pub record RunReported {M G R : Type 0} (m : registers.Ghosts M) (g : registers.Ghosts G) (r : rule.Ghosts R) (bytes : List ℕ) (money : M) (goods : G) (charges : R) (report : List ReportLine) : Type 0 where
+-- a run of the sheet's rows and calls, from the start that its rows make, that keeps the law of whole runs, reported line by line
+pub record RunReported (from : List Row → Start) (bytes : List ℕ) (report : List ReportLine) : Type 0 where
   pub told : List Told
   pub end : Point
-  pub law : RunLaw (start m g r (flat_map row_in (notes_of bytes)) money goods charges) (flat_map request_in (notes_of bytes)) told end
+  pub law : RunLaw (from (flat_map row_in (notes_of bytes))) (flat_map request_in (notes_of bytes)) told end
   pub reported : report ≡ report_of bytes told end.ledger
 
 -- a sheet that is too long is refused whole, and no line of it is run
 abbrev pub too_long : List ℕ → Bool
 too_long bytes = nat_lt most_bytes (length bytes)
 
-module _ {M G R : Type 0} (m : registers.Ghosts M) (g : registers.Ghosts G) (r : rule.Ghosts R) (bytes : List ℕ) (money : M) (goods : G) (charges : R) (report : List ReportLine) where
-  abbrev pub ReportedIf : Bool → Type 0
-  ReportedIf true = report ≡ Refused 0 (shown faults.LongSheet) ∷ []
-  ReportedIf false = RunReported m g r bytes money goods charges report
+module _ (from : List Row → Start) (bytes : List ℕ) where
+  abbrev pub ReportedIf : List ReportLine → Bool → Type 0
+  ReportedIf report true = report ≡ Refused 0 (shown faults.LongSheet) ∷ []
+  ReportedIf report false = RunReported from bytes report
 
-  abbrev pub Reported : Type 0
-  Reported = ReportedIf (too_long bytes)
+  abbrev pub Reported : List ReportLine → Type 0
+  Reported report = ReportedIf report (too_long bytes)
+
+  -- the text of a report of a sheet
+  pub record ReportedText (text : List ℕ) : Type 0 where
+    pub report : List ReportLine
+    pub reported : Reported report
+    pub written : text ≡ report_text report

@@ -1,8 +1,9 @@
 // Why a line of a sheet has no answers.
 ghost use Rattle.std.specs.Prelude.{◌≡◌};
-ghost use Rattle.report.specs.Notes.{shown};
-ghost use Rattle.report.specs.declared.faults.SheetFault.TheVariants.{NotRead, Refused};
+ghost use Rattle.report.specs.Notes.{fault_of, shown};
+ghost use Rattle.report.specs.declared.faults.SheetFault.TheVariants.{NotRead};
 
+use rules::calls::RequestFault;
 use rules::refusals::{Layer, Refusal, Shown};
 use sheet::LineFault;
 
@@ -25,11 +26,14 @@ impl From<LineFault> for SheetFault {
     }
 }
 
-impl From<Refusal> for SheetFault {
-    ghost from_gives = { λ e r. r ≡ Refused e };
+impl From<RequestFault> for SheetFault {
+    ghost from_gives = { λ e r. r ≡ fault_of e };
 
-    fn from(refusal: Refusal) -> SheetFault {
-        SheetFault::Refused(refusal)
+    fn from(fault: RequestFault) -> SheetFault {
+        match fault {
+            RequestFault::Refused(refusal) => SheetFault::Refused(refusal),
+            RequestFault::Misplaced => SheetFault::Misplaced,
+        }
     }
 }
 

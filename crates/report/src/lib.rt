@@ -9,6 +9,6 @@ mod running;
 
 pub use faults::SheetFault;
 pub use lines::ReportLine;
-pub use members::member_line;
-pub use reading::note;
-pub use running::{answers, report_line, run_sheet};
+pub use members::{member_line, member_lines};
+pub use reading::{note, opens};
+pub use running::{MOST_BYTES, answers, report_line, run_sheet};

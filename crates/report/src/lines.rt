@@ -1,5 +1,8 @@
 // The lines of a report.
-use rules::refusals::{Layer, Shown};
+ghost use Rattle.std.specs.Prelude.{Some};
+ghost use Rattle.report.specs.Texts.{shown_line};
+
+use rules::refusals::Shown;
 use std::fmt;
 
 /// A line of a report: a line of the sheet, accepted with two answers or refused, or a member at the end.
@@ -23,16 +26,9 @@ pub enum ReportLine {
     },
 }
 
-fn letter(layer: Layer) -> char {
-    match layer {
-        Layer::Sheet => 'S',
-        Layer::Book => 'B',
-        Layer::Money => 'M',
-        Layer::Goods => 'G',
-    }
-}
-
 impl fmt::Display for ReportLine {
+    ghost output = { λ l. Some (shown_line l) };
+
     fn fmt<W: fmt::Write>(&self, f: &mut fmt::Formatter<W>) -> fmt::Result {
         match *self {
             ReportLine::Accepted {
@@ -40,12 +36,14 @@ impl fmt::Display for ReportLine {
                 first,
                 second,
             } => write!(f, "{line},A,{first},{second}"),
-            ReportLine::Refused { line, shown } => {
-                let layer = letter(shown.layer);
-                let number = shown.number;
-                let place = shown.place;
-                write!(f, "{line},R,{layer},{number},{place}")
-            }
+            ReportLine::Refused {
+                line,
+                shown: Shown {
+                    layer,
+                    number,
+                    place,
+                },
+            } => write!(f, "{line},R,{layer},{number},{place}"),
             ReportLine::Member {
                 member,
                 position,

@@ -1,12 +1,9 @@
 // What the lines of a sheet say.
-ghost use Rattle.std.specs.Prelude.{◌≡◌, false, List, IfOk, Result};
-ghost use Rattle.std.specs.Option.{option_to_list};
-ghost use Rattle.sheet.specs.declared.outcome.Line.{Line};
-ghost use Rattle.report.specs.declared.faults.SheetFault.{SheetFault};
-ghost use Rattle.std.specs.List.{flat_map};
+ghost use Rattle.std.specs.Prelude.{◌≡◌, false, IfOk};
+ghost use Rattle.std.specs.List.{filter_map};
 ghost use Rattle.fields.specs.Sheets.{lines_of};
 ghost use Rattle.sheet.specs.Lines.{read_line};
-ghost use Rattle.report.specs.Notes.{notes_from, opened_after, request_in, row_in, timely};
+ghost use Rattle.report.specs.Notes.{notes_from, opened_after, opens, request_of, row_of, timely};
 
 use crate::faults::SheetFault;
 use rules::calls::Request;
@@ -26,15 +23,17 @@ pub fn note(line: &[u8], opened: bool) -> Result<Line, SheetFault>
     ensures { result ≡ timely opened (read_line line.now) }
 {
     let read = read_line(line)?;
-    match read {
-        Line::Instrument(_) => {
-            if opened {
-                return Err(SheetFault::Misplaced);
-            }
-            Ok(read)
-        }
-        Line::Call(_) => Ok(read),
+    if opened && matches!(read, Line::Instrument(_)) {
+        return Err(SheetFault::Misplaced);
     }
+    Ok(read)
+}
+
+/// Whether the book is open after a line: any line but a row's opens it.
+pub fn opens(opened: bool, line: &[u8]) -> bool
+    ensures { result ≡ opens opened line.now }
+{
+    opened || !names_row(line)
 }
 
 /// Reads a whole sheet.
@@ -44,10 +43,9 @@ pub(crate) fn read_sheet(heap: Global, bytes: &[u8]) -> Result<Notes, AllocError
 {
     let mut notes = Vec::new(heap);
     let mut opened = false;
-    let mut lines = Lines::of(bytes);
-    while let Some(line) = lines.next() {
+    for line in Lines::of(bytes) {
         notes.push(note(line, opened))?;
-        opened = opened || !names_row(line);
+        opened = opens(opened, line);
     }
     Ok(Notes {
         lines: notes,
@@ -55,57 +53,44 @@ pub(crate) fn read_sheet(heap: Global, bytes: &[u8]) -> Result<Notes, AllocError
     })
 }
 
-/// What is picked out of the lines of a sheet.
-pub(crate) trait Picks<T> {
-    ghost picked: { Self → Result Line SheetFault → List T };
-
-    fn pick(&self, note: &Result<Line, SheetFault>) -> Option<T>
-        ensures { option_to_list result ≡ picked self.now note.now };
+/// The row that a line collects.
+fn row_of(note: &Result<Line, SheetFault>) -> Option<Row>
+    ensures { result ≡ row_of note.now }
+{
+    match note {
+        Ok(Line::Instrument(row)) => Some(*row),
+        _ => None,
+    }
 }
+
+/// The call that a line makes, as a request.
+fn request_of(note: &Result<Line, SheetFault>) -> Option<Request>
+    ensures { result ≡ request_of note.now }
+{
+    match note {
+        Ok(Line::Call(call)) => Some(Request::Make(*call)),
+        _ => None,
+    }
+}
+
+// Two lists by two chains: a function of both would only rename them.
 
 /// The rows that the lines collect.
-#[derive(Clone, Copy)]
-pub(crate) struct Rows;
-
-impl Picks<Row> for Rows {
-    ghost picked = { λ _ n. row_in n };
-
-    fn pick(&self, note: &Result<Line, SheetFault>) -> Option<Row> {
-        match note {
-            Ok(Line::Instrument(row)) => Some(*row),
-            _ => None,
-        }
-    }
-}
-
-/// The calls that the lines make.
-#[derive(Clone, Copy)]
-pub(crate) struct Calls;
-
-impl Picks<Request> for Calls {
-    ghost picked = { λ _ n. request_in n };
-
-    fn pick(&self, note: &Result<Line, SheetFault>) -> Option<Request> {
-        match note {
-            Ok(Line::Call(call)) => Some(Request::Make(*call)),
-            _ => None,
-        }
-    }
-}
-
-/// All that is picked out of the lines, in their order.
-pub(crate) fn collect<T: Copy, P: Picks<T>>(
+pub(crate) fn rows_in(
     heap: Global,
     notes: &[Result<Line, SheetFault>],
-    picks: &P,
-) -> Result<Vec<T>, AllocError>
-    ensures { IfOk result (λ v. v.items ≡ flat_map (P.Picks.picked picks.now) notes.now) }
+) -> Result<Vec<Row>, AllocError>
+    ensures { IfOk result (λ rows. rows.items ≡ filter_map row_of notes.now) }
 {
-    let mut out = Vec::new(heap);
-    for note in notes {
-        if let Some(item) = picks.pick(note) {
-            out.push(item)?;
-        }
-    }
-    Ok(out)
+    notes.iter().filter_map(row_of).collect(heap)
+}
+
+/// The calls that the lines make, as requests.
+pub(crate) fn requests_in(
+    heap: Global,
+    notes: &[Result<Line, SheetFault>],
+) -> Result<Vec<Request>, AllocError>
+    ensures { IfOk result (λ requests. requests.items ≡ filter_map request_of notes.now) }
+{
+    notes.iter().filter_map(request_of).collect(heap)
 }

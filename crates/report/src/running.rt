@@ -1,56 +1,34 @@
 // Runs a whole day sheet.
-ghost use Rattle.std.specs.Prelude.{◌≡◌, ◌≤◌, cond, [], ◌∷◌, ◌++◌, length, IfOk, OnOk, slice_index_or};
-ghost use Rattle.rules.specs.declared.calls.Told.TheVariants.{Misplaced};
-ghost use Rattle.section.specs.Steps.{shows};
+ghost use Rattle.std.specs.Prelude.{◌≡◌, ◌≤◌, cond, [], ◌∷◌, ◌++◌, length, IfOk, OnOk};
 ghost use Rattle.report.specs.Notes.{request_in, shown};
 ghost use Rattle.report.specs.declared.faults.SheetFault.TheVariants.{LongSheet};
 ghost use Rattle.report.specs.declared.lines.ReportLine.TheVariants.{Refused};
-ghost use Rattle.report.specs.Reports.{Reported, answers, becomes, line_of, lines_report, members_below, taken};
+ghost use Rattle.report.specs.Reports.{Reported, answers, becomes, first, left_after, line_of, lines_report};
+ghost use Rattle.rules.specs.Law.{start};
 
 use crate::faults::SheetFault;
 use crate::lines::ReportLine;
-use crate::members::member_line;
-use crate::reading::{Calls, Rows, collect, read_sheet};
+use crate::members::member_lines;
+use crate::reading::{read_sheet, requests_in, rows_in};
+use book::House;
 use charge::ChargeRule;
 use keeper::Keeper;
-use rules::calls::Told;
-use rules::refusals::Refusal;
-use section::{SectionBook, replay};
+use rules::calls::{Answer, RequestFault, Told};
+use section::replay;
 use sheet::Line;
 use std::alloc::{AllocError, Global};
+use std::slice::Iter;
 
 /// A sheet has at most so many bytes.
-const MOST_BYTES: usize = 65_536;
-
-/// A call's answers, unless the book refuses it.
-fn taken(told: Told) -> Result<(u64, u64), Refusal>
-    ensures { result ≡ taken told }
-{
-    match told {
-        Told::Accepted { first, second } => Ok((first, second)),
-        Told::Refused(refusal) => Err(refusal),
-        Told::Replied(_) | Told::Misplaced => Ok((0, 0)),
-    }
-}
+pub const MOST_BYTES: usize = 65_536;
 
 /// A call's answers, or its fault.
 pub fn answers(told: Told) -> Result<(u64, u64), SheetFault>
     ensures { result ≡ answers told }
 {
-    if let Told::Misplaced = told {
-        return Err(SheetFault::Misplaced);
-    }
-    let answers = taken(told)?;
-    Ok(answers)
-}
-
-/// What becomes of a line: a row answers 0 and 0, a call what was told of it.
-fn becomes(note: Result<Line, SheetFault>, told: Told) -> Result<(u64, u64), SheetFault>
-    ensures { result ≡ becomes note told }
-{
-    match note? {
-        Line::Instrument(_) => Ok((0, 0)),
-        Line::Call(_) => answers(told),
+    match told? {
+        Answer::Accepted { first, second } => Ok((first, second)),
+        Answer::Replied(_) => Ok((0, 0)),
     }
 }
 
@@ -71,25 +49,22 @@ pub fn report_line(line: u64, outcome: Result<(u64, u64), SheetFault>) -> Report
     }
 }
 
-/// How many calls a line makes: one or none.
-fn calls_in(note: &Result<Line, SheetFault>) -> usize
-    ensures value { result ≡ length (request_in note.now) }
-    ensures few { result ≤ 1 }
+/// What becomes of a line: a row answers 0 and 0, a call what is told next.
+fn becomes(
+    note: &Result<Line, SheetFault>,
+    told: &mut Iter<'_, Told>,
+) -> Result<(u64, u64), SheetFault>
+    ensures outcome { result ≡ becomes note.now (first told.old.rest.now) }
+    ensures left { told.new.rest.now ≡ left_after note.now told.old.rest.now }
 {
     match note {
-        Ok(Line::Call(_)) => 1,
-        _ => 0,
+        Ok(Line::Instrument(_)) => Ok((0, 0)),
+        Ok(Line::Call(_)) => match told.next() {
+            Some(told) => answers(*told),
+            None => Err(SheetFault::Misplaced),
+        },
+        Err(fault) => Err(*fault),
     }
-}
-
-/// What was told of a call; nothing was told of one that is not there.
-fn told_at(told: &[Told], call: usize) -> Told
-    ensures { result ≡ slice_index_or told.now call Misplaced }
-{
-    if call < told.len() {
-        return told[call];
-    }
-    Told::Misplaced
 }
 
 /// The report's lines for the lines of a sheet.
@@ -101,58 +76,32 @@ fn report_lines(
     ensures { IfOk result (λ v. v.items ≡ lines_report 1 0 notes.now told.now) }
 {
     let mut report = Vec::new(heap);
-    let mut calls: usize = 0;
+    let mut told = told.iter();
     for (i, note) in notes.iter().enumerate() {
-        let outcome = becomes(*note, told_at(told, calls));
-        report.push(report_line(i as u64 + 1, outcome))?;
-        calls += calls_in(note);
+        report.push(report_line(i as u64 + 1, becomes(note, &mut told)))?;
     }
     Ok(report)
 }
 
-/// Adds the lines of the members.
-fn report_members<M: Keeper, G: Keeper, R: ChargeRule>(
-    report: &mut Vec<ReportLine>,
-    book: &SectionBook<M, G, R>,
-) -> Result<(), AllocError>
-    ensures { OnOk result (report.new.items ≡ report.old.items ++ members_below (shows M.Registers G.Registers R.ChargeRule book.now).ledger 64) }
-{
-    for member in 0..64 {
-        if let Some(line) = member_line(book, member) {
-            report.push(line)?;
-        }
-    }
-    Ok(())
-}
-
-/// Runs a day sheet over two keepers and a charge rule, and reports on each of its lines and, if it opened the
+/// Runs a day sheet over a house, and reports on each of its lines and, if it opened the
 /// book, on the members at the end.
 pub fn run_sheet<M: Keeper + Drop, G: Keeper + Drop, R: ChargeRule + Drop>(
     heap: Global,
     sheet: &[u8],
-    money: M,
-    goods: G,
-    rule: R,
+    house: House<M, G, R>,
 ) -> Result<Vec<ReportLine>, AllocError>
-    ensures { IfOk result (λ v. Reported M.Registers G.Registers R.ChargeRule sheet.now money goods rule v.items) }
+    ensures { IfOk result (λ report. Reported (λ rows. start M.Registers G.Registers R.ChargeRule rows house.money house.goods house.rule) sheet.now report.items) }
 {
     if sheet.len() > MOST_BYTES {
         return refused_whole(heap);
     }
     let notes = read_sheet(heap, sheet)?;
-    let rows = collect(heap, notes.lines.as_slice(), &Rows)?;
-    let requests = collect(heap, notes.lines.as_slice(), &Calls)?;
-    let (told, book) = replay(
-        heap,
-        rows.as_slice(),
-        money,
-        goods,
-        rule,
-        requests.as_slice(),
-    )?;
+    let rows = rows_in(heap, notes.lines.as_slice())?;
+    let requests = requests_in(heap, notes.lines.as_slice())?;
+    let (told, book) = replay(heap, rows.as_slice(), house, requests.as_slice())?;
     let mut report = report_lines(heap, notes.lines.as_slice(), told.as_slice())?;
     if notes.opened {
-        report_members(&mut report, &book)?;
+        report.extend_from_slice(member_lines(heap, &book)?.as_slice())?;
     }
     Ok(report)
 }

@@ -6,11 +6,10 @@ use Rattle.charge.specs.declared.ChargeRule as rule
 use Rattle.charge.specs.Charges.{Charge}
 use Rattle.rules.specs.declared.rows.Row.{Row}
 use Rattle.rules.specs.declared.calls.Request.{Request}
-use Rattle.rules.specs.declared.calls.Told.{Told}
 use Rattle.rules.specs.Terms.{in_force}
 use Rattle.rules.specs.Holds.{payment_to_date}
 use Rattle.rules.specs.Limits.{Ledger, opening, free_position, free_clearing, free_goods}
-use Rattle.rules.specs.Runs.{is_rating, Point, Step, reached, Run}
+use Rattle.rules.specs.Runs.{Told, is_rating, Point, Step, reached, Run}
 use Rattle.rules.specs.History.{Done, accepted, trade_in, row_in, kilograms_in, payments_in, endings, money_brought, money_taken, goods_brought, goods_taken}
 
 -- what a run starts from: rows, the charge rule's top and charge, and what the two keepers mean

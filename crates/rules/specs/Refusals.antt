@@ -1,5 +1,5 @@
 -- The number of each refusal, and what a report shows of it. Assumes nothing.
-use Rattle.std.specs.Prelude.{ℕ}
+use Rattle.std.specs.Prelude.{ℕ, List, codes}
 use Rattle.keeper.specs.Meaning.{number as keeper_number}
 use Rattle.rules.specs.declared.refusals.Layer.{Layer}
 use Rattle.rules.specs.declared.refusals.Layer.TheVariants as layers
@@ -52,3 +52,10 @@ shown (Goods f) = record { layer = layers.Goods; number = keeper_number f.fault;
 
 abbrev pub layer : Refusal → Layer
 layer e = (shown e).layer
+
+-- the letter that a report shows of a layer
+abbrev pub letter : Layer → List ℕ
+letter layers.Sheet = codes "S"
+letter layers.Book = codes "B"
+letter layers.Money = codes "M"
+letter layers.Goods = codes "G"

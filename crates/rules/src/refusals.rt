@@ -1,20 +1,13 @@
 // Why a call or a question is refused.
-ghost use Rattle.std.specs.Prelude.{◌≡◌};
-ghost use Rattle.rules.specs.Refusals.{of_book, shown};
-ghost use Rattle.rules.specs.declared.refusals.Refusal.TheVariants.{Money, Goods};
+ghost use Rattle.std.specs.Prelude.{◌≡◌, Some};
+ghost use Rattle.rules.specs.Refusals.{letter, of_book, shown};
 
 use keeper::KeeperFault;
+use std::fmt;
 
-/// An entry that the money keeper refused: its fault, and the receiver, or the giver of a debit.
+/// An entry that a keeper refused: its fault, and the receiver, or the giver of a debit.
 #[derive(Clone, Copy)]
-pub struct MoneyFault {
-    pub fault: KeeperFault,
-    pub register: usize,
-}
-
-/// An entry that the goods keeper refused.
-#[derive(Clone, Copy)]
-pub struct GoodsFault {
+pub struct EntryFault {
     pub fault: KeeperFault,
     pub register: usize,
 }
@@ -51,8 +44,10 @@ pub enum Refusal {
     ContractState,
     /// The day does not allow it.
     WrongDay,
-    Money(MoneyFault),
-    Goods(GoodsFault),
+    /// The money keeper refuses the entry.
+    Money(EntryFault),
+    /// The goods keeper refuses the entry.
+    Goods(EntryFault),
 }
 
 /// Where a refusal comes from.
@@ -64,6 +59,19 @@ pub enum Layer {
     Goods,
 }
 
+impl fmt::Display for Layer {
+    ghost output = { λ l. Some (letter l) };
+
+    fn fmt<W: fmt::Write>(&self, f: &mut fmt::Formatter<W>) -> fmt::Result {
+        f.write_str(match self {
+            Layer::Sheet => "S",
+            Layer::Book => "B",
+            Layer::Money => "M",
+            Layer::Goods => "G",
+        })
+    }
+}
+
 /// What a report shows of a refusal: of a keeper's its own number and the register, of a sheet's the place of the
 /// field, else the number and 0.
 #[derive(Clone, Copy)]
@@ -73,23 +81,8 @@ pub struct Shown {
     pub place: u64,
 }
 
-impl From<MoneyFault> for Refusal {
-    ghost from_gives = { λ e r. r ≡ Money e };
-
-    fn from(fault: MoneyFault) -> Refusal {
-        Refusal::Money(fault)
-    }
-}
-
-impl From<GoodsFault> for Refusal {
-    ghost from_gives = { λ e r. r ≡ Goods e };
-
-    fn from(fault: GoodsFault) -> Refusal {
-        Refusal::Goods(fault)
-    }
-}
-
 impl Refusal {
+    /// What a report shows of the refusal. By name and not by From: a fault of any layer is shown so.
     pub fn shown(self) -> Shown
         ensures { result ≡ shown self }
     {

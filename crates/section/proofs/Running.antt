@@ -2,8 +2,7 @@
 use Rattle.std.proofs.Common.{◌≡◌, List, [], ◌∷◌, ◌++◌, length, sym, refl, ap, ◌∙◌, subst}
 use Rattle.std.proofs.lemmas.List.{length-map, map_push}
 use Rattle.rules.specs.declared.calls.Request.{Request}
-use Rattle.rules.specs.declared.calls.Told.{Told}
-use Rattle.rules.specs.Runs.{FollowsOn, Point, Run, Step, onward, reached}
+use Rattle.rules.specs.Runs.{Told, FollowsOn, Point, Run, Step, onward, reached}
 use Rattle.section.specs.Steps.{Ran, Stepped}
 use Rattle.law.specs.Lawful.{KeepsLaw}
 use Rattle.rules.specs.Law.{RunLaw, Start, opened}

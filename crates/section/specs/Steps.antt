@@ -4,12 +4,13 @@ use Rattle.keeper.specs.declared.keepers.Registers as registers
 use Rattle.charge.specs.declared.rule.ChargeRule as rule
 use Rattle.rules.specs.declared.refusals.Refusal.{Refusal}
 use Rattle.rules.specs.declared.calls.Request.{Request}
-use Rattle.rules.specs.declared.calls.Told.{Told}
-use Rattle.rules.specs.declared.calls.Told.TheVariants.{Accepted, Refused}
+use Rattle.rules.specs.declared.calls.Answer.TheVariants.{Accepted}
+use Rattle.rules.specs.declared.calls.RequestFault.TheVariants.{Refused}
 use Rattle.rules.specs.Limits.{session, trading}
-use Rattle.rules.specs.Runs.{Point, Posted, Run, Step, feed, made, next, outcome, reached}
+use Rattle.rules.specs.Runs.{Told, Point, Posted, Run, Step, feed, made, next, outcome, reached}
 use Rattle.section.specs.declared.section_book.SectionBook.{SectionBook}
 use Rattle.section.specs.declared.section_book.SectionBook.TheVariants.{Trading, Session}
+use Rattle.book.specs.declared.shows.Shows as book_shows
 use Rattle.book.specs.Views.{point_of}
 
 -- what a book shows, in whichever half it is
@@ -19,8 +20,8 @@ shows m g r (Session b) = point_of session m g r b
 
 -- what is told of a call that came out so
 abbrev pub told_of : Result (ℕ × ℕ) Refusal → Told
-told_of (Ok v) = Accepted v.0 v.1
-told_of (Err e) = Refused e
+told_of (Ok v) = Ok (Accepted v.0 v.1)
+told_of (Err e) = Err (Refused e)
 
 -- a request leads from one point to the next as the ledger has it, and each keeper accepts the entry that the ledger makes there, and no other
 pub record Stepped (p : Point) (request : Request) (told : Told) (q : Point) : Type 0 where
@@ -28,6 +29,10 @@ pub record Stepped (p : Point) (request : Request) (told : Told) (q : Point) : T
   pub ledger : q.ledger ≡ next p.ledger (feed p) request
   pub money : Posted p.money (made p.ledger (feed p) request).money q.money
   pub goods : Posted p.goods (made p.ledger (feed p) request).goods q.goods
+
+-- a request to a book leads on from what it shows before to what it shows after
+abbrev pub Steps : {B : Type 0} → book_shows.Ghosts B → B → Request → Told → B → Type 0
+Steps s b request told b' = Stepped (s.point b) request told (s.point b')
 
 -- there are steps with these requests, of which these things were told, that lead from one point to another
 pub record Ran (p : Point) (requests : List Request) (told : List Told) (q : Point) : Type 0 where

@@ -1,10 +1,9 @@
 // Whole runs of requests.
 ghost use Rattle.std.specs.Prelude.{◌≡◌, IfOk};
 ghost use Rattle.rules.specs.Law.{RunLaw, start};
-ghost use Rattle.section.specs.Steps.{shows};
 
 use crate::section_book::SectionBook;
-use book::TradingBook;
+use book::{House, Shows, TradingBook};
 use charge::ChargeRule;
 use keeper::Keeper;
 use rules::calls::{Request, Told};
@@ -16,15 +15,13 @@ use std::alloc::{AllocError, Global};
 pub fn replay<M: Keeper + Drop, G: Keeper + Drop, R: ChargeRule + Drop>(
     heap: Global,
     rows: &[Row],
-    money: M,
-    goods: G,
-    rule: R,
+    house: House<M, G, R>,
     requests: &[Request],
 ) -> Result<(Vec<Told>, SectionBook<M, G, R>), AllocError>
-    ensures { IfOk result (λ p. RunLaw (start M.Registers G.Registers R.ChargeRule rows.now money goods rule) requests.now p.0.items (shows M.Registers G.Registers R.ChargeRule p.1)) }
+    ensures { IfOk result (λ p. RunLaw (start M.Registers G.Registers R.ChargeRule rows.now house.money house.goods house.rule) requests.now p.0.items (⟦<SectionBook<M, G, R> as Shows>⟧.point p.1)) }
 {
     let mut told = Vec::with_capacity(heap, requests.len())?;
-    let mut book = SectionBook::Trading(TradingBook::open(heap, rows, money, goods, rule)?);
+    let mut book = SectionBook::Trading(TradingBook::open(heap, rows, house)?);
     for request in requests {
         let (answer, next) = book.take(*request);
         told.push_reserved(answer);

@@ -1,4 +1,4 @@
-// What a contract holds of its parties' money.
+// What a contract holds of its parties' money. Its row comes beside it: only who keeps the rows can find it.
 ghost use Rattle.std.specs.Prelude.{◌≡◌, ◌≤◌, true};
 ghost use Rattle.rules.specs.Holds.{buyer_charge, due, seller_charge, value};
 ghost use Rattle.settling.specs.Fits.{fit_contract};

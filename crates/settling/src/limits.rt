@@ -1,8 +1,9 @@
 // The limits that a contract and its row keep.
 ghost use Rattle.std.specs.Prelude.{◌≡◌};
-ghost use Rattle.settling.specs.Fits.{fit_contract, fit_row, fit_state};
+ghost use Rattle.settling.specs.Fits.{fit_contract, fit_row};
 
-use rules::contracts::{Contract, State};
+use crate::weights::delivered;
+use rules::contracts::Contract;
 use rules::rows::Row;
 
 /// Whether a row's numbers are within what a desk lists.
@@ -10,16 +11,6 @@ pub(crate) fn fits_row(row: &Row) -> bool
     ensures { result ≡ fit_row row.now }
 {
     row.number <= 15 && row.weight <= 100_000 && row.funding <= 90 && row.delivery <= 90
-}
-
-/// Whether a contract can have come to so many kilograms.
-fn fits_state(state: State) -> bool
-    ensures { result ≡ fit_state state }
-{
-    match state {
-        State::Unfunded => true,
-        State::Funded { kilograms, .. } => kilograms <= 1_000_000_000,
-    }
 }
 
 /// Whether a contract's numbers are within what a trade makes.
@@ -32,5 +23,5 @@ pub(crate) fn fits(contract: &Contract) -> bool
         && contract.trade.price <= 1_000_000_000
         && contract.trade.lots <= 10_000
         && contract.delivery <= 36_590
-        && fits_state(contract.state)
+        && delivered(contract) <= 1_000_000_000
 }

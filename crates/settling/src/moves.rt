@@ -2,6 +2,7 @@
 ghost use Rattle.std.specs.Prelude.{◌≡◌, true};
 ghost use Rattle.settling.specs.Fits.{fit_next};
 
+use keeper::Entry;
 use rules::contracts::State;
 
 /// An amount that is to go from one register of a keeper to another.
@@ -23,4 +24,18 @@ pub struct Turn {
     pub money: Option<Move>,
     pub goods: Option<Move>,
     ghost fit: { fit_next state ≡ true },
+}
+
+impl From<Move> for Entry {
+    ghost use Rattle.settling.specs.Meeting.{entry_of};
+
+    ghost from_gives = { λ m e. e ≡ entry_of m };
+
+    fn from(m: Move) -> Entry {
+        Entry::Transfer {
+            giver: m.giver,
+            receiver: m.receiver,
+            amount: m.amount,
+        }
+    }
 }

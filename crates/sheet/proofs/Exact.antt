@@ -30,7 +30,7 @@ record WasRead (fs : List Form) (ps : List (List ℕ)) (make : Maker fs) (l : Li
   pub is : applied fs make values ≡ l
 
 read_one : (place : ℕ) (f : Form) (fs : List Form) (p : List ℕ) (ps : List (List ℕ)) (make : Maker (f ∷ fs)) (l : Line) (o : Option (Value f)) → value_in f p ≡ o → then_at place o (λ x. read_from (place + 1) fs ps (make x)) ≡ Ok l → ((x : Value f) → read_from (place + 1) fs ps (make x) ≡ Ok l → WasRead fs ps (make x) l) → WasRead (f ∷ fs) (p ∷ ps) make l
-read_one place f fs p ps make l None s e go = let z : ◌≡◌ {A = ℕ} 0 1 = cc in absurd (omega arith)
+read_one place f fs p ps make l None s e go = cc
 read_one place f fs p ps make l (Some x) s e go =
     let g = gives f p x s in
     let r = go x e in
@@ -60,7 +60,7 @@ misfit_one place f fs ps make e (Some x) s h go =
     (r.0, r.1, inr ((x, g.0, g.1), r.2))
 
 read_misfits : (place : ℕ) (fs : List Form) (ps : List (List ℕ)) (make : Maker fs) (e : LineFault) → read_from place fs ps make ≡ Err e → Misfits place fs ps e
-read_misfits place [] ps make e h = let z : ◌≡◌ {A = ℕ} 0 1 = cc in absurd (omega arith)
+read_misfits place [] ps make e h = cc
 read_misfits place (f ∷ fs) ps make e h = misfit_one place f fs ps make e (value_in f (first_of ps)) refl h (λ x h. read_misfits (place + 1) fs (others_of ps) (make x) e h)
 
 -- the verbs
@@ -74,7 +74,7 @@ spells : (w p : List ℕ) → is_word w p ≡ true → p ≡ w
 spells w p e = let h = and_parts (eqb (length p) (length w)) (spelled_from 0 w p) e in spelled_on 0 w p (omega (arith, eqb-true (length p) (length w) h.0)) h.1
 
 first_gives : (vs : List Verb) (p : List ℕ) (v : Verb) → first_spelled vs p ≡ Some v → p ≡ word v
-first_gives [] p v e = let z : ◌≡◌ {A = ℕ} 0 1 = cc in absurd (omega arith)
+first_gives [] p v e = cc
 first_gives (w ∷ vs) p v e = by (is_word (word w) p) refl e (first_gives vs p v)
   where
     by : (t : Bool) → is_word (word w) p ≡ t → cond t (Some w) (first_spelled vs p) ≡ Some v → (first_spelled vs p ≡ Some v → p ≡ word v) → p ≡ word v
@@ -168,10 +168,10 @@ verb_gives v ps l e = by (eqb (length ps) (length (forms_of v))) refl e
   where
     by : (t : Bool) → eqb (length ps) (length (forms_of v)) ≡ t → cond t (read_from 1 (forms_of v) ps (made v)) (Err FieldCount) ≡ Ok l → Spelled (with_commas (word v ∷ ps)) l
     by true s e = was_entered v ps l (read_gives 1 (forms_of v) ps (made v) l (eqb-true _ _ s) e)
-    by false s e = let z : ◌≡◌ {A = ℕ} 0 1 = cc in absurd (omega arith)
+    by false s e = cc
 
 line_gives_by : (bs : List ℕ) (l : Line) (o : Option Verb) → verb_in (first_of (parts bs)) ≡ o → by_verb o (others_of (parts bs)) ≡ Ok l → Spelled bs l
-line_gives_by bs l None s e = let z : ◌≡◌ {A = ℕ} 0 1 = cc in absurd (omega arith)
+line_gives_by bs l None s e = cc
 line_gives_by bs l (Some v) s e =
     let is : with_commas (word v ∷ others_of (parts bs)) ≡ bs = ap (λ p. with_commas (p ∷ others_of (parts bs))) (sym (first_gives verbs _ v s)) ∙ ap with_commas (sym (first_others (parts bs) (pieces_some 44 bs))) ∙ joined_parts bs in
     subst (λ bs. Spelled bs l) is (verb_gives v (others_of (parts bs)) l e)
@@ -180,7 +180,7 @@ line_gives : (bs : List ℕ) (l : Line) → read_line bs ≡ Ok l → Spelled bs
 line_gives bs l e = by (ltb most_bytes (length bs)) e
   where
     by : (t : Bool) → cond t (Err LongLine) (by_verb (verb_in (first_of (parts bs))) (others_of (parts bs))) ≡ Ok l → Spelled bs l
-    by true e = let z : ◌≡◌ {A = ℕ} 0 1 = cc in absurd (omega arith)
+    by true e = cc
     by false e = line_gives_by bs l (verb_in (first_of (parts bs))) refl e
 
 -- from a text to what is read
@@ -215,7 +215,7 @@ verb_faulty bs v e b h = by (eqb (length (others_of (parts bs))) (length (forms_
 faulty_by : (bs : List ℕ) (e : LineFault) (o : Option Verb) → length bs ≤ most_bytes → verb_in (first_of (parts bs)) ≡ o → by_verb o (others_of (parts bs)) ≡ Err e → Faulty bs e
 faulty_by bs e None l s h =
     let k : UnknownVerb ≡ e = cc in
-    subst (Faulty bs) k (l, λ v w. let z : ◌≡◌ {A = ℕ} 0 1 = cc (s, ap verb_in w, (plain v).0) in omega arith)
+    subst (Faulty bs) k (l, λ v w. cc (s, ap verb_in w, (plain v).0))
 faulty_by bs e (Some v) l s h = verb_faulty bs v e (l, first_gives verbs _ v s) h
 
 line_faulty : (bs : List ℕ) (e : LineFault) → read_line bs ≡ Err e → Faulty bs e

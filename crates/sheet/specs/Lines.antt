@@ -34,7 +34,7 @@ made Dft = λ n. Call (Settle n Default)
 made Eod = Call EndSession
 
 -- a value goes on, and none is a fault at the place
-abbrev pub then_at : {X : Type 0} → ℕ → Option X → (X → Result Line LineFault) → Result Line LineFault
+abbrev pub then_at : {X Y : Type 0} → ℕ → Option X → (X → Result Y LineFault) → Result Y LineFault
 then_at place None go = Err (NotInForm place)
 then_at place (Some x) go = go x
 

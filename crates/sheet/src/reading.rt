@@ -55,8 +55,5 @@ pub fn names_row(line: &[u8]) -> bool
     ensures { result ≡ names_row line.now }
 {
     let (verb, _) = cut(b',', line);
-    match verb {
-        b"INS" => true,
-        _ => false,
-    }
+    matches!(verb, b"INS")
 }

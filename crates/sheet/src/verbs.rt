@@ -1,4 +1,4 @@
-// The line that each verb makes of the fields after it.
+// The line that each verb makes of the fields after it: a function for each, since what differs is what it makes.
 ghost use Rattle.std.specs.Prelude.{◌≡◌};
 ghost use Rattle.sheet.specs.Lines.{line_in};
 ghost use Rattle.fields.specs.Pieces.{parts_after};
@@ -16,19 +16,13 @@ pub(crate) fn instrument(rest: Option<&[u8]>) -> Result<Line, LineFault>
     ensures { result ≡ line_in Ins (parts_after rest.entry) }
 {
     let mut fields = Fields::exactly(rest, 6)?;
-    let number = fields.number()?;
-    let kind = fields.kind()?;
-    let weight = fields.number()?;
-    let funding = fields.number()?;
-    let delivery = fields.number()?;
-    let rate = fields.number()?;
     Ok(Line::Instrument(Row {
-        number,
-        kind,
-        weight,
-        funding,
-        delivery,
-        rate,
+        number: fields.read()?,
+        kind: fields.read()?,
+        weight: fields.read()?,
+        funding: fields.read()?,
+        delivery: fields.read()?,
+        rate: fields.read()?,
     }))
 }
 
@@ -37,13 +31,10 @@ pub(crate) fn deposit(rest: Option<&[u8]>) -> Result<Line, LineFault>
     ensures { result ≡ line_in Dep (parts_after rest.entry) }
 {
     let mut fields = Fields::exactly(rest, 3)?;
-    let member = fields.number()?;
-    let account = fields.account()?;
-    let amount = fields.number()?;
     Ok(Line::Call(Call::Deposit {
-        member,
-        account,
-        amount,
+        member: fields.read()?,
+        account: fields.read()?,
+        amount: fields.read()?,
     }))
 }
 
@@ -52,13 +43,10 @@ pub(crate) fn withdrawal(rest: Option<&[u8]>) -> Result<Line, LineFault>
     ensures { result ≡ line_in Wdr (parts_after rest.entry) }
 {
     let mut fields = Fields::exactly(rest, 3)?;
-    let member = fields.number()?;
-    let account = fields.account()?;
-    let amount = fields.number()?;
     Ok(Line::Call(Call::Withdraw {
-        member,
-        account,
-        amount,
+        member: fields.read()?,
+        account: fields.read()?,
+        amount: fields.read()?,
     }))
 }
 
@@ -67,13 +55,10 @@ pub(crate) fn shift(rest: Option<&[u8]>) -> Result<Line, LineFault>
     ensures { result ≡ line_in Shf (parts_after rest.entry) }
 {
     let mut fields = Fields::exactly(rest, 3)?;
-    let member = fields.number()?;
-    let source = fields.account()?;
-    let amount = fields.number()?;
     Ok(Line::Call(Call::Shift {
-        member,
-        source,
-        amount,
+        member: fields.read()?,
+        source: fields.read()?,
+        amount: fields.read()?,
     }))
 }
 
@@ -82,13 +67,10 @@ pub(crate) fn goods_deposit(rest: Option<&[u8]>) -> Result<Line, LineFault>
     ensures { result ≡ line_in Gin (parts_after rest.entry) }
 {
     let mut fields = Fields::exactly(rest, 3)?;
-    let member = fields.number()?;
-    let instrument = fields.number()?;
-    let kilograms = fields.number()?;
     Ok(Line::Call(Call::DepositGoods {
-        member,
-        instrument,
-        kilograms,
+        member: fields.read()?,
+        instrument: fields.read()?,
+        kilograms: fields.read()?,
     }))
 }
 
@@ -97,13 +79,10 @@ pub(crate) fn goods_withdrawal(rest: Option<&[u8]>) -> Result<Line, LineFault>
     ensures { result ≡ line_in Got (parts_after rest.entry) }
 {
     let mut fields = Fields::exactly(rest, 3)?;
-    let member = fields.number()?;
-    let instrument = fields.number()?;
-    let kilograms = fields.number()?;
     Ok(Line::Call(Call::WithdrawGoods {
-        member,
-        instrument,
-        kilograms,
+        member: fields.read()?,
+        instrument: fields.read()?,
+        kilograms: fields.read()?,
     }))
 }
 
@@ -112,21 +91,14 @@ pub(crate) fn order(rest: Option<&[u8]>) -> Result<Line, LineFault>
     ensures { result ≡ line_in Ord (parts_after rest.entry) }
 {
     let mut fields = Fields::exactly(rest, 7)?;
-    let number = fields.number()?;
-    let member = fields.number()?;
-    let side = fields.side()?;
-    let instrument = fields.number()?;
-    let price = fields.number()?;
-    let lots = fields.number()?;
-    let last = fields.last_day()?;
     Ok(Line::Call(Call::Place(Order {
-        number,
-        member,
-        side,
-        instrument,
-        price,
-        lots,
-        last,
+        number: fields.read()?,
+        member: fields.read()?,
+        side: fields.read()?,
+        instrument: fields.read()?,
+        price: fields.read()?,
+        lots: fields.read()?,
+        last: fields.read()?,
     })))
 }
 
@@ -134,8 +106,7 @@ pub(crate) fn order(rest: Option<&[u8]>) -> Result<Line, LineFault>
 pub(crate) fn cancel(rest: Option<&[u8]>) -> Result<Line, LineFault>
     ensures { result ≡ line_in Cxl (parts_after rest.entry) }
 {
-    let mut fields = Fields::exactly(rest, 1)?;
-    let order = fields.number()?;
+    let order = Fields::exactly(rest, 1)?.read()?;
     Ok(Line::Call(Call::Cancel { order }))
 }
 
@@ -144,17 +115,12 @@ pub(crate) fn trade(rest: Option<&[u8]>) -> Result<Line, LineFault>
     ensures { result ≡ line_in Trd (parts_after rest.entry) }
 {
     let mut fields = Fields::exactly(rest, 5)?;
-    let contract = fields.number()?;
-    let buy = fields.number()?;
-    let sell = fields.number()?;
-    let price = fields.number()?;
-    let lots = fields.number()?;
     Ok(Line::Call(Call::Execute(Trade {
-        contract,
-        buy,
-        sell,
-        price,
-        lots,
+        contract: fields.read()?,
+        buy: fields.read()?,
+        sell: fields.read()?,
+        price: fields.read()?,
+        lots: fields.read()?,
     })))
 }
 
@@ -163,9 +129,10 @@ pub(crate) fn rating(rest: Option<&[u8]>) -> Result<Line, LineFault>
     ensures { result ≡ line_in Rte (parts_after rest.entry) }
 {
     let mut fields = Fields::exactly(rest, 2)?;
-    let instrument = fields.number()?;
-    let rate = fields.number()?;
-    Ok(Line::Call(Call::Rerate { instrument, rate }))
+    Ok(Line::Call(Call::Rerate {
+        instrument: fields.read()?,
+        rate: fields.read()?,
+    }))
 }
 
 /// EOT: no field.
@@ -180,8 +147,7 @@ pub(crate) fn end_of_trading(rest: Option<&[u8]>) -> Result<Line, LineFault>
 pub(crate) fn funding(rest: Option<&[u8]>) -> Result<Line, LineFault>
     ensures { result ≡ line_in Fnd (parts_after rest.entry) }
 {
-    let mut fields = Fields::exactly(rest, 1)?;
-    let contract = fields.number()?;
+    let contract = Fields::exactly(rest, 1)?.read()?;
     Ok(Line::Call(Call::Settle {
         contract,
         event: Event::Funding,
@@ -193,11 +159,11 @@ pub(crate) fn delivery(rest: Option<&[u8]>) -> Result<Line, LineFault>
     ensures { result ≡ line_in Dlv (parts_after rest.entry) }
 {
     let mut fields = Fields::exactly(rest, 2)?;
-    let contract = fields.number()?;
-    let kilograms = fields.number()?;
     Ok(Line::Call(Call::Settle {
-        contract,
-        event: Event::Delivery { kilograms },
+        contract: fields.read()?,
+        event: Event::Delivery {
+            kilograms: fields.read()?,
+        },
     }))
 }
 
@@ -205,8 +171,7 @@ pub(crate) fn delivery(rest: Option<&[u8]>) -> Result<Line, LineFault>
 pub(crate) fn default(rest: Option<&[u8]>) -> Result<Line, LineFault>
     ensures { result ≡ line_in Dft (parts_after rest.entry) }
 {
-    let mut fields = Fields::exactly(rest, 1)?;
-    let contract = fields.number()?;
+    let contract = Fields::exactly(rest, 1)?.read()?;
     Ok(Line::Call(Call::Settle {
         contract,
         event: Event::Default,

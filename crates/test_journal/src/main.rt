@@ -1,6 +1,7 @@
 // A day over two journals with few places: deliveries are refused whole once one of them is full.
 #![tactic(auto)]
 
+use book::House;
 use charge::PercentRule;
 use console::{print_report, read_bytes};
 use keeper::{Entry, JournalKeeper};
@@ -15,12 +16,11 @@ fn main(rt: HostRuntime) -> anyhow::Result<()> {
     let sheet = read_bytes(&rt)?;
     let mut money = [UNWRITTEN; 8];
     let mut goods = [UNWRITTEN; 3];
-    let report = run_sheet(
-        rt.alloc(),
-        sheet.as_slice(),
-        JournalKeeper::open(&mut money, 128),
-        JournalKeeper::open(&mut goods, 1024),
-        PercentRule,
-    )?;
+    let house = House {
+        money: JournalKeeper::open(&mut money, 128),
+        goods: JournalKeeper::open(&mut goods, 1024),
+        rule: PercentRule,
+    };
+    let report = run_sheet(rt.alloc(), sheet.as_slice(), house)?;
     print_report(&rt, report.as_slice())
 }

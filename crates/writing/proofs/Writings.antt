@@ -11,22 +11,22 @@ use Rattle.sheet.specs.declared.outcome.Line.TheVariants.{Instrument, Call}
 use Rattle.sheet.specs.Lines.{read_line}
 use Rattle.rules.specs.Law.{Start, opened}
 use Rattle.rules.specs.Limits.{Ledger}
-use Rattle.rules.specs.Runs.{Point}
-use Rattle.rules.specs.declared.calls.Told.{Told}
+use Rattle.rules.specs.Runs.{Told, Point}
 use Rattle.rules.specs.declared.rows.Row.{Row}
 use Rattle.section.specs.Steps.{Ran}
 use Rattle.law.specs.Lawful.{KeepsLaw}
 use Rattle.section.proofs.Running.{ran_lawful, ran_none}
-use Rattle.printing.specs.Texts.{Adds, line_text, report_text}
+use Rattle.report.specs.Texts.{line_text, report_text}
+use Rattle.writing.specs.Writings.{Adds}
 use Rattle.report.specs.declared.lines.ReportLine.{ReportLine}
 use Rattle.report.specs.declared.lines.ReportLine.TheVariants.{Refused}
-use Rattle.printing.proofs.Digits.{more}
 use Rattle.report.specs.declared.faults.SheetFault.{SheetFault}
 use Rattle.report.specs.declared.faults.SheetFault.TheVariants.{LongSheet}
 use Rattle.report.specs.Notes.{notes_from, opened_after, opens, request_in, row_in, shown, timely}
 use Rattle.report.specs.Reports.{line_of, lines_report, members_below, notes_of, report_of}
-use Rattle.writing.specs.Writings.{LineRun, LinesRun, ReportedFromIf, ReportedText}
-use Rattle.writing.proofs.Lines.{Note, Noted, noted, text_more}
+use Rattle.report.specs.Reports.{ReportedIf, ReportedText}
+use Rattle.writing.specs.Writings.{LineRun, LinesRun}
+use Rattle.writing.proofs.Lines.{Note, Noted, more, noted, text_more}
 
 notes_long : (o : Bool) (lines : List (List ℕ)) → length (notes_from o lines) ≡ length lines
 notes_long o [] = refl
@@ -77,13 +77,13 @@ pub record Sofar (p : Point) (bytes before : List ℕ) (opened : Bool) (left : L
   pub written : Adds before (report_text (lines_report 1 0 notes told)) text
   pub ahead : opened_after opened left ≡ opened_after false (lines_of bytes)
 
-pub sofar_none : (p : Point) (bytes before : List ℕ) (left : List (List ℕ)) → left ≡ lines_of bytes → Sofar p bytes before false left 0 before p
-sofar_none p bytes before left all = record {
+pub sofar_none : (p : Point) (bytes before : List ℕ) (left : List (List ℕ)) (number : ℕ) → left ≡ lines_of bytes → number ≡ 0 → Sofar p bytes before false left number before p
+sofar_none p bytes before left number all none = record {
   notes = [];
   told = [];
   all = ap (notes_from false) all;
   ran = ran_none p p [] refl refl;
-  counted = refl;
+  counted = sym none;
   written = record { all = sym (append-nil before) };
   ahead = ap (opened_after false) all;
 }
@@ -97,10 +97,10 @@ module _ (p : Point) (bytes before : List ℕ) (opened : Bool) (left : List (Lis
 
   -- x is the next line
   pub sofar_more : (x : List ℕ) (after : List (List ℕ)) → left ≡ x ∷ after → (n : Note) → n ≡ timely opened (read_line x) → (o : Result (ℕ × ℕ) SheetFault) (q' : Point) → LineRun q n o q'
-      → (text' : List ℕ) → Adds text (line_text (line_of (number + 1) o)) text' → (opened' : Bool) → opened' ≡ opens opened x → Sofar p bytes before opened' after (number + 1) text' q'
-  sofar_more x after next n is o q' run text' adds opened' moves =
+      → (i : ℕ) → i ≡ number → (text' : List ℕ) → Adds text (line_text (line_of (i + 1) o)) text' → (opened' : Bool) → opened' ≡ opens opened x → (number' : ℕ) → number' ≡ number + 1 → Sofar p bytes before opened' after number' text' q'
+  sofar_more x after next n is o q' run i at text' adds opened' moves number' step =
       let on : Noted p so.notes so.told n o q' = noted p q q' so.notes so.told o so.ran n run in
-      let line : number + 1 ≡ 1 + length so.notes = omega (arith, so.counted) in
+      let line : i + 1 ≡ 1 + length so.notes = omega (arith, at, so.counted) in
       let l = line_of (1 + length so.notes) o in
       record {
         notes = so.notes ++ n ∷ [];
@@ -110,8 +110,8 @@ module _ (p : Point) (bytes before : List ℕ) (opened : Bool) (left : List (Lis
             ∙ ap (λ ls. so.notes ++ notes_from opened ls) (sym next)
             ∙ so.all;
         ran = on.ran;
-        counted = length_push so.notes n ∙ ap (λ k. k + 1) so.counted;
-        written = subst (λ ls. Adds before (report_text ls) text') (sym on.reported) (text_more (lines_report 1 0 so.notes so.told) l so.written (subst (λ i. Adds text (line_text (line_of i o)) text') line adds));
+        counted = length_push so.notes n ∙ ap (λ k. k + 1) so.counted ∙ sym step;
+        written = subst (λ ls. Adds before (report_text ls) text') (sym on.reported) (text_more (lines_report 1 0 so.notes so.told) l so.written (subst (λ k. Adds text (line_text (line_of k o)) text') line adds));
         ahead = ap (λ b. opened_after b after) moves ∙ ap (opened_after opened) (sym next) ∙ so.ahead;
       }
 
@@ -162,13 +162,13 @@ module _ (from : List Row → Start) (bytes : List ℕ) (rows : List Row) (all :
       let report : List ReportLine = report_of bytes run.told q.ledger in
       record {
         report = report;
-        reported = subst (ReportedFromIf from bytes report) (sym (le-ltb 65536 (length bytes) short)) (record { told = run.told; end = q; law = ran_lawful (from rs) _ _ q (keeps rs) ran; reported = refl });
+        reported = subst (ReportedIf from bytes report) (sym (le-ltb 65536 (length bytes) short)) (record { told = run.told; end = q; law = ran_lawful (from rs) _ _ q (keeps rs) ran; reported = refl });
         written = (more run.written (with_members o q.ledger members)).all
             ∙ sym (text_both lines tail)
             ∙ ap (λ t. report_text (lines ++ cond t (members_below q.ledger 64) [])) is;
       }
 
-pub whole_refused : (from : List Row → Start) (bytes text : List ℕ) → 65536 < length bytes → text ≡ line_text (Refused 0 (shown LongSheet)) → ReportedText from bytes text
+pub whole_refused : (from : List Row → Start) (bytes text : List ℕ) → 65536 < length bytes → text ≡ report_text (Refused 0 (shown LongSheet) ∷ []) → ReportedText from bytes text
 whole_refused from bytes text long is =
     let report : List ReportLine = Refused 0 (shown LongSheet) ∷ [] in
-    record { report = report; reported = subst (ReportedFromIf from bytes report) (sym (lt-ltb 65536 (length bytes) long)) refl; written = is ∙ sym (append-nil _) }
+    record { report = report; reported = subst (ReportedIf from bytes report) (sym (lt-ltb 65536 (length bytes) long)) refl; written = is }

@@ -1,7 +1,6 @@
 // Runs a day sheet line by line, and writes the text of its report as it goes.
 #![tactic(auto)]
 
-mod members;
 mod rows;
 mod running;
 

@@ -5,17 +5,10 @@ ghost use Rattle.fields.specs.Sheets.{lines_of};
 ghost use Rattle.sheet.specs.Lines.{read_line};
 ghost use Rattle.report.specs.Notes.{notes_from, opens, row_in, timely};
 
-use report::note;
+use report::{note, opens};
 use rules::rows::Row;
-use sheet::{Line, Lines, names_row, read_line};
+use sheet::{Line, Lines, read_line};
 use std::alloc::{AllocError, Global};
-
-/// Whether the book is open after a line: any line but a row's opens it.
-pub(crate) fn opens(opened: bool, line: &[u8]) -> bool
-    ensures { result ≡ opens opened line.now }
-{
-    opened || !names_row(line)
-}
 
 /// Adds the row that a line before the opening collects, if it is one.
 fn add_row(rows: &mut Vec<Row>, line: &[u8]) -> Result<(), AllocError>
@@ -32,8 +25,7 @@ pub(crate) fn rows_of(heap: Global, sheet: &[u8]) -> Result<Vec<Row>, AllocError
     ensures { IfOk result (λ rows. rows.items ≡ flat_map row_in (notes_from false (lines_of sheet.now))) }
 {
     let mut rows = Vec::new(heap);
-    let mut lines = Lines::of(sheet);
-    while let Some(line) = lines.next() {
+    for line in Lines::of(sheet) {
         add_row(&mut rows, line)?;
         if opens(false, line) {
             return Ok(rows);

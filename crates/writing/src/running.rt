@@ -1,28 +1,32 @@
 // Runs a whole day sheet and writes its report.
-ghost use Rattle.std.specs.Prelude.{◌≡◌, ◌≤◌, false, [], ◌∷◌, length, IfOk};
+ghost use Rattle.std.specs.Prelude.{◌≡◌, ◌≤◌, false, length, string_bytes, IfOk, OnOk};
 ghost use Rattle.fields.specs.Sheets.{lines_of};
-ghost use Rattle.printing.specs.Texts.{line_text};
-ghost use Rattle.report.specs.declared.lines.ReportLine.TheVariants.{Refused};
+ghost use Rattle.report.specs.Texts.{report_text};
+ghost use Rattle.report.specs.Reports.{ReportedText};
 ghost use Rattle.rules.specs.Law.{start};
 ghost use Rattle.section.specs.Steps.{shows};
-ghost use Rattle.report.specs.Notes.{opened_after, shown};
-ghost use Rattle.writing.specs.Writings.{LineRun, LinesRun, ReportedText};
-ghost use Rattle.report.specs.declared.faults.SheetFault.TheVariants.{LongSheet};
+ghost use Rattle.report.specs.Notes.{opened_after};
+ghost use Rattle.writing.specs.Writings.{Adds, LineRun, LinesRun};
 
-use crate::members::add_members;
-use crate::rows::{opens, rows_of};
-use book::TradingBook;
+use crate::rows::rows_of;
+use book::{House, TradingBook};
 use charge::ChargeRule;
 use keeper::Keeper;
-use printing::add_line;
-use report::{SheetFault, answers, note, report_line};
+use report::{MOST_BYTES, ReportLine, SheetFault, answers, member_lines, note, opens, report_line};
 use rules::calls::{Request, Told};
 use section::SectionBook;
 use sheet::{Line, Lines};
 use std::alloc::{AllocError, Global};
 
-/// A sheet has at most so many bytes.
-const MOST_BYTES: usize = 65_536;
+/// Adds lines of a report to a text, each with its feed.
+fn write_lines(text: &mut String, lines: &[ReportLine]) -> Result<(), AllocError>
+    ensures { OnOk result (Adds (string_bytes text.old) (report_text lines.now) (string_bytes text.new)) }
+{
+    for line in lines {
+        writeln!(text, "{line}")?;
+    }
+    Ok(())
+}
 
 /// What becomes of a line, and the book after it: a row answers 0 and 0, a call what the book tells of it.
 fn run_line<M: Keeper, G: Keeper, R: ChargeRule>(
@@ -45,56 +49,44 @@ fn run_line<M: Keeper, G: Keeper, R: ChargeRule>(
 fn run_lines<M: Keeper + Drop, G: Keeper + Drop, R: ChargeRule + Drop>(
     sheet: &[u8],
     book: SectionBook<M, G, R>,
-    text: &mut Vec<u8>,
+    text: &mut String,
 ) -> Result<(SectionBook<M, G, R>, bool), AllocError>
     requires { length sheet.now ≤ 65536 }
-    ensures run { IfOk result (λ p. LinesRun (shows M.Registers G.Registers R.ChargeRule book) sheet.now text.old.items text.new.items (shows M.Registers G.Registers R.ChargeRule p.0)) }
+    ensures run { IfOk result (λ p. LinesRun (shows M.Registers G.Registers R.ChargeRule book) sheet.now (string_bytes text.old) (string_bytes text.new) (shows M.Registers G.Registers R.ChargeRule p.0)) }
     ensures opened { IfOk result (λ p. p.1 ≡ opened_after false (lines_of sheet.now)) }
 {
     let mut book = book;
     let mut opened = false;
-    let mut number: u64 = 0;
-    let mut lines = Lines::of(sheet);
-    while let Some(line) = lines.next() {
+    for (i, line) in Lines::of(sheet).enumerate() {
         let (outcome, next) = run_line(book, note(line, opened));
         book = next;
-        number += 1;
-        add_line(text, report_line(number, outcome))?;
+        let reported = report_line(i as u64 + 1, outcome);
+        writeln!(text, "{reported}")?;
         opened = opens(opened, line);
     }
     Ok((book, opened))
 }
 
-/// Runs a day sheet over two keepers and a charge rule, and writes its report: on each of its lines and, if it
-/// opened the book, on the members at the end.
+/// Runs a day sheet over a house, and writes its report: on each of its lines and, if it opened the book, on the
+/// members at the end. Line by line, not from `report::run_sheet`: a report that is first kept whole takes up to
+/// a fifth more instructions, and memory for each line.
 pub fn write_sheet<M: Keeper + Drop, G: Keeper + Drop, R: ChargeRule + Drop>(
     heap: Global,
     sheet: &[u8],
-    money: M,
-    goods: G,
-    rule: R,
-) -> Result<Vec<u8>, AllocError>
-    ensures { IfOk result (λ text. ReportedText (λ rows. start M.Registers G.Registers R.ChargeRule rows money goods rule) sheet.now text.items) }
+    house: House<M, G, R>,
+) -> Result<String, AllocError>
+    ensures { IfOk result (λ text. ReportedText (λ rows. start M.Registers G.Registers R.ChargeRule rows house.money house.goods house.rule) sheet.now (string_bytes text)) }
 {
+    let mut text = String::new(heap);
     if sheet.len() > MOST_BYTES {
-        let text = refused_text(heap)?;
+        write_lines(&mut text, &[report_line(0, Err(SheetFault::LongSheet))])?;
         return Ok(text);
     }
     let rows = rows_of(heap, sheet)?;
-    let book = TradingBook::open(heap, rows.as_slice(), money, goods, rule)?;
-    let mut text = Vec::new(heap);
+    let book = TradingBook::open(heap, rows.as_slice(), house)?;
     let (book, opened) = run_lines(sheet, SectionBook::Trading(book), &mut text)?;
     if opened {
-        add_members(&mut text, &book)?;
+        write_lines(&mut text, member_lines(heap, &book)?.as_slice())?;
     }
-    Ok(text)
-}
-
-/// The report of a sheet that is too long.
-fn refused_text(heap: Global) -> Result<Vec<u8>, AllocError>
-    ensures { IfOk result (λ text. text.items ≡ line_text (Refused 0 (shown LongSheet))) }
-{
-    let mut text = Vec::new(heap);
-    add_line(&mut text, report_line(0, Err(SheetFault::LongSheet)))?;
     Ok(text)
 }

@@ -4,7 +4,7 @@ use Rattle.keeper.specs.Meaning.{Meaning, tabled}
 use Rattle.charge.specs.Charges.{Charge}
 use Rattle.rules.specs.declared.rows.Row.{Row}
 use Rattle.rules.specs.Law.{Start}
-use Rattle.writing.specs.Writings.{ReportedText}
+use Rattle.report.specs.Reports.{ReportedText}
 
 -- a table of empty registers: one for each place, 1,024 at most
 abbrev pub emptied : ℕ → Meaning

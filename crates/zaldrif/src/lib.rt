@@ -1,17 +1,18 @@
 // The library that other languages link: a day sheet in, the text of its report out.
 #![tactic(auto)]
 
-ghost use Rattle.std.specs.Prelude.{◌≡◌, ◌≤◌, ◌++◌, length, drop, IfOk};
+ghost use Rattle.std.specs.Prelude.{◌≡◌, ◌≤◌, ◌++◌, length, drop, string_bytes, IfOk};
 ghost use Rattle.charge.specs.Charges.{flat, flat_top, percent, percent_top};
-ghost use Rattle.writing.specs.Writings.{ReportedText};
+ghost use Rattle.report.specs.Reports.{ReportedText};
 ghost use Rattle.zaldrif.specs.Days.{DayRun, day_start};
 
+use book::House;
 use charge::{ChargeRule, FlatRule, PercentRule};
 use keeper::TableKeeper;
 use std::alloc::{AllocError, Global};
 use writing::write_sheet;
 
-/// Told in place of a length where memory is wanting.
+/// Told in place of a length where memory is wanting: C has a number for it, and no Option.
 const NO_MEMORY: u64 = u64::MAX;
 
 /// The text of the report of a day over table keepers.
@@ -21,17 +22,15 @@ fn day_text<R: ChargeRule + Drop>(
     money: &mut [u64],
     goods: &mut [u64],
     rule: R,
-) -> Result<Vec<u8>, AllocError>
-    ensures { IfOk result (λ text. ReportedText (day_start (R.ChargeRule.top rule) (R.ChargeRule.charge rule) (length money.old) (length goods.old)) sheet.now text.items) }
+) -> Result<String, AllocError>
+    ensures { IfOk result (λ text. ReportedText (day_start (R.ChargeRule.top rule) (R.ChargeRule.charge rule) (length money.old) (length goods.old)) sheet.now (string_bytes text)) }
 {
-    let text = write_sheet(
-        heap,
-        sheet,
-        TableKeeper::open(money),
-        TableKeeper::open(goods),
+    let house = House {
+        money: TableKeeper::open(money),
+        goods: TableKeeper::open(goods),
         rule,
-    )?;
-    Ok(text)
+    };
+    write_sheet(heap, sheet, house)
 }
 
 /// Writes a text to the front of a buffer; the rest of it stays.
@@ -54,17 +53,17 @@ fn run_day<R: ChargeRule + Drop>(
 ) -> u64
     ensures { DayRun (day_start (R.ChargeRule.top rule) (R.ChargeRule.charge rule) (length money.old) (length goods.old)) sheet.now buffer.old result buffer.new }
 {
-    match day_text(heap, sheet, money, goods, rule) {
-        Ok(text) => {
-            let bytes = text.as_slice();
-            if bytes.len() <= buffer.len() {
-                write_front(buffer, bytes);
-            }
-            bytes.len() as u64
-        }
-        Err(_) => NO_MEMORY,
+    let Ok(text) = day_text(heap, sheet, money, goods, rule) else {
+        return NO_MEMORY;
+    };
+    let bytes = text.as_bytes();
+    if bytes.len() <= buffer.len() {
+        write_front(buffer, bytes);
     }
+    bytes.len() as u64
 }
+
+// A function for each rule, and each slice by itself: C passes neither types nor structs of slices.
 
 /// Runs a day sheet by the percent rule.
 #[unsafe(no_mangle)]

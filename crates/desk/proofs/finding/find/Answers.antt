@@ -4,8 +4,8 @@ use Rattle.rules.specs.Terms.{found}
 use Rattle.desk.proofs.Searches.{found_here, found_further}
 use Rattle.desk.proofs.finding.find.Goals as goal
 
-pub returns-then-number : goal.returns-then-number
-returns-then-number g c =
+pub returns-then-number-clause-value : goal.returns-then-number-clause-value
+returns-then-number-clause-value g c =
     let i = c.item-item in
     found_here g.T.Numbered.number c.args.number c.args.items.now c.loop-item.item-index i.result c.loop-item-test.true i.is (sym c.number.ensures ∙ c.if-number.true)
     ∙ c.loop-item.invariant
@@ -16,5 +16,5 @@ loop-item-preserved g c =
     found_further g.T.Numbered.number c.args.number c.args.items.now c.loop-item.item-index i.result c.loop-item-test.true i.is (λ e. c.if-number.false (c.number.ensures ∙ e))
     ∙ c.loop-item.invariant
 
-pub returns : goal.returns
-returns g c = sym (at_drop_all (found g.T.Numbered.number c.args.number) c.args.items.now c.loop-item.item-index c.loop-item-test.false) ∙ c.loop-item.invariant
+pub returns-clause-value : goal.returns-clause-value
+returns-clause-value g c = sym (at_drop_all (found g.T.Numbered.number c.args.number) c.args.items.now c.loop-item.item-index c.loop-item-test.false) ∙ c.loop-item.invariant

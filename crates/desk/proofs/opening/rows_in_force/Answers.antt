@@ -1,16 +1,7 @@
-use Rattle.std.proofs.Common.{sym, ap, ◌∙◌, arith}
-use Rattle.std.proofs.lemmas.List.{take_all}
-use Rattle.rules.specs.Terms.{in_force}
-use Rattle.settling.specs.Fits.{fit_row}
-use Rattle.desk.specs.Fits.{all_fit}
+use Rattle.std.proofs.Common.{sym, ◌∙◌, arith}
 use Rattle.desk.proofs.Openings.{in_force_yes, in_force_no, listed_fit}
 use Rattle.desk.proofs.opening.rows_in_force.Goals as goal
 use Rattle.desk.proofs.opening.rows_in_force.Goals.{then-is_admitted, else-is_admitted}
-
-pub loop-row-init : goal.loop-row-init
-loop-row-init c =
-    let fresh = c.in_ok-listed.ensures in
-    (omega (arith, fresh.len), fresh.capacity, fresh.items, ap (all_fit fit_row) fresh.items)
 
 pub loop-row-preserved : goal.loop-row-preserved
 loop-row-preserved c =
@@ -35,8 +26,3 @@ loop-row-preserved c =
             inv.3,
           )
     ]
-
-pub returns : goal.returns
-returns c =
-    let inv = c.loop-row.invariant in
-    record { rows = inv.2 ∙ ap (in_force c.args.top) (take_all _ _ c.loop-row-test.false); fit = inv.3 }

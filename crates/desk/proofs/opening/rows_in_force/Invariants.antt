@@ -1,7 +1,7 @@
-use Rattle.std.proofs.Common.{◌≡◌, ◌≤◌, true, length, take, vec_items, vec_len, vec_capacity}
+use Rattle.std.proofs.Common.{◌≡◌, ◌≤◌, length, take, vec_items, vec_len, vec_capacity}
 use Rattle.rules.specs.Terms.{in_force}
 use Rattle.settling.specs.Fits.{fit_row}
-use Rattle.desk.specs.Fits.{all_fit}
+use Rattle.std.specs.List.{AllPass}
 use Rattle.desk.proofs.opening.rows_in_force.Given as goal
 
 abbrev pub invariant-loop-row : goal.invariant-loop-row
@@ -9,4 +9,4 @@ invariant-loop-row l =
     (vec_len l.listed ≤ l.row-index)
     × (length l.rows ≤ vec_capacity l.listed)
     × (vec_items l.listed ≡ in_force l.top (take l.row-index l.rows))
-    × (all_fit fit_row (vec_items l.listed) ≡ true)
+    × AllPass fit_row (vec_items l.listed)

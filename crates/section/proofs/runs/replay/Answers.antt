@@ -1,4 +1,4 @@
-use Rattle.std.proofs.Common.{◌≡◌, vec_items, refl, subst₂, arith}
+use Rattle.std.proofs.Common.{◌≡◌, vec_items, subst₂, arith}
 use Rattle.std.proofs.lemmas.List.{take_more, take_all}
 use Rattle.rules.specs.declared.calls.Account.TheVariants.{Position}
 use Rattle.rules.specs.declared.calls.Call.TheVariants.{Deposit}
@@ -8,13 +8,8 @@ use Rattle.rules.specs.Limits.{trading}
 use Rattle.law.proofs.Whole.{lawful_from}
 use Rattle.section.specs.Steps.{Ran, shows}
 use Rattle.book.specs.Views.{point_of}
-use Rattle.section.proofs.Running.{ran_lawful, ran_more, ran_none}
+use Rattle.section.proofs.Running.{ran_lawful, ran_more}
 use Rattle.section.proofs.runs.replay.Goals as goal
-
-pub loop-request-init : goal.loop-request-init
-loop-request-init g c =
-    let room = c.in_ok-told.ensures in
-    (room.len, room.capacity, ran_none _ _ _ refl room.items)
 
 pub loop-request-preserved : goal.loop-request-preserved
 loop-request-preserved g c =
@@ -33,8 +28,8 @@ pub returns : goal.returns
 returns g c =
     let a = c.args in
     let ran = c.loop-request.invariant.2 in
-    let o : Start = start g.M.Registers g.G.Registers g.R.ChargeRule a.rows.now a.money a.goods a.rule in
+    let o : Start = start g.M.Registers g.G.Registers g.R.ChargeRule a.rows.now a.house.money a.house.goods a.house.rule in
     let first : point_of trading g.M.Registers g.G.Registers g.R.ChargeRule c.in_ok-open.field-0 ≡ opened o = c.in_ok-open.ensures in
     let all : Ran (opened o) a.requests.now (vec_items c.loop-request.told) (shows g.M.Registers g.G.Registers g.R.ChargeRule c.loop-request.book) =
     subst₂ (λ p rs. Ran p rs (vec_items c.loop-request.told) (shows g.M.Registers g.G.Registers g.R.ChargeRule c.loop-request.book)) first (take_all _ _ c.loop-request-test.false) ran in
-    ran_lawful o _ _ _ (lawful_from g.M.Registers g.G.Registers g.R.ChargeRule a.rows.now a.money a.goods a.rule (g.met.R.ChargeRule.splits a.rule)) all
+    ran_lawful o _ _ _ (lawful_from g.M.Registers g.G.Registers g.R.ChargeRule a.rows.now a.house.money a.house.goods a.house.rule (g.met.R.ChargeRule.splits a.house.rule)) all

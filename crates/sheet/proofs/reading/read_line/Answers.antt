@@ -1,11 +1,13 @@
-use Rattle.std.proofs.Common.{◌≡◌, Err, rules}
+use Rattle.std.proofs.Common.{Err, rules}
 use Rattle.fields.specs.declared.LineFault.TheVariants.{LongLine}
-use Rattle.sheet.specs.Lines.{read_line}
 use Rattle.sheet.proofs.Exact.{reads_exactly, reading}
 use Rattle.sheet.proofs.reading.read_line.Goals as goal
 
-pub returns-then-line-gt-MOST_BYTES : goal.returns-then-line-gt-MOST_BYTES
-returns-then-line-gt-MOST_BYTES c = let e : Err LongLine ≡ read_line c.args.line.now = search rules in record { value = e; reading = reading c.args.line.now _ e; exact = reads_exactly c.args.line.now _ e }
+pub returns-then-line-gt-MOST_BYTES-clause-exact : goal.returns-then-line-gt-MOST_BYTES-clause-exact
+returns-then-line-gt-MOST_BYTES-clause-exact c = reads_exactly c.args.line.now (Err LongLine) (search rules)
 
-pub returns : goal.returns
-returns c = let e : c.by_verb.result ≡ read_line c.args.line.now = search rules in record { value = e; reading = reading c.args.line.now _ e; exact = reads_exactly c.args.line.now _ e }
+pub returns-clause-reading : goal.returns-clause-reading
+returns-clause-reading c = reading c.args.line.now c.by_verb.result (search rules)
+
+pub returns-clause-exact : goal.returns-clause-exact
+returns-clause-exact c = reads_exactly c.args.line.now c.by_verb.result (search rules)

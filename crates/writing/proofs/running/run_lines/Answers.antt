@@ -1,16 +1,23 @@
-use Rattle.std.proofs.Common.{vec_items, subst, arith}
-use Rattle.printing.specs.Texts.{Adds, line_text}
+use Rattle.std.proofs.Common.{ℕ, List, string_bytes, rules, ap, ◌∙◌, subst}
+use Rattle.std.specs.Iterator.Adapters.{enumerate_count, enumerate_source}
+use Rattle.fields.specs.Cursors.{lines_left}
+use Rattle.report.specs.Texts.{line_text}
+use Rattle.writing.specs.Writings.{Adds}
 use Rattle.report.specs.declared.lines.ReportLine.{ReportLine}
-use Rattle.writing.proofs.Writings.{number_few, sofar_more, sofar_none}
+use Rattle.writing.proofs.Writings.{sofar_more, sofar_none}
 use Rattle.writing.proofs.running.run_lines.Goals as goal
 
-pub loop-line-init : goal.loop-line-init
-loop-line-init g c = sofar_none _ _ _ _ c.of-lines.ensures.all
+pub loop-i-init : goal.loop-i-init
+loop-i-init g c =
+    let from = c.into_iter-i-iterator.ensures.into_iter_gives in
+    let all = ap (λ e. lines_left (enumerate_source e)) from ∙ ap lines_left c.enumerate-i-items.ensures.source ∙ c.of.ensures.all in
+    sofar_none _ _ _ _ _ all (ap enumerate_count from ∙ c.enumerate-i-items.ensures.count)
 
-pub overflow_add-number : goal.overflow_add-number
-overflow_add-number g c = omega (arith, number_few _ _ _ _ _ _ _ _ c.loop-line.invariant, c.requires)
-
-pub loop-line-preserved : goal.loop-line-preserved
-loop-line-preserved g c =
-    let adds = subst (λ (l : ReportLine). Adds (vec_items c.loop-line.text) (line_text l) (vec_items c.add_line.new.text)) c.report_line.ensures c.in_ok-add_line.ensures in
-    sofar_more _ _ _ _ _ _ _ _ c.loop-line.invariant _ _ c.in-Some.ensures _ c.note.ensures _ _ c.run_line-outcome.ensures _ adds _ c.opens-opened.ensures
+pub loop-i-preserved : goal.loop-i-preserved
+loop-i-preserved g c =
+    let next = c.in-Some.ensures.steps in
+    let before : List ℕ = string_bytes c.loop-i.text in
+    let after : List ℕ = string_bytes c.writeln.new.self in
+    let written : Adds before (line_text c.report_line-reported.result) after = record { all = search rules } in
+    let adds = subst (λ (l : ReportLine). Adds before (line_text l) after) c.report_line-reported.ensures written in
+    sofar_more _ _ _ _ _ _ _ _ c.loop-i.invariant _ _ next.0 _ c.note.ensures _ _ c.run_line-outcome.ensures _ next.1 _ adds _ c.opens-opened.ensures _ next.2

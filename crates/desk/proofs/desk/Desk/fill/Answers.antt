@@ -1,23 +1,19 @@
-use Rattle.std.proofs.Common.{map, vec_items, filter, ap, ◌∙◌, arith}
+use Rattle.std.proofs.Common.{◌≡◌, true, filter, map, rules}
+use Rattle.std.proofs.lemmas.List.Elements.{All-same, All-filter}
+use Rattle.rules.specs.declared.orders.LiveOrder.{LiveOrder}
 use Rattle.rules.specs.Orders.{has_rest, lowered_by}
-use Rattle.desk.specs.Fits.{all_fit, fit_order}
-use Rattle.desk.proofs.Fitting.{fit_kept, fit_map, lowered_fit}
+use Rattle.desk.specs.Fits.{fit_order}
+use Rattle.desk.proofs.Fitting.{fit_map, lowered_fit}
+use Rattle.desk.proofs.Lists.{changed_and_kept}
 use Rattle.desk.proofs.desk.Desk.fill.Goals as goal
 
-pub invariant_of-self : goal.invariant_of-self
-invariant_of-self c =
+pub returns-clause-orders : goal.returns-clause-orders
+returns-clause-orders c = changed_and_kept _ has_rest (lowered_by c.args.trade) _ (λ x b t y k. search rules) _ _ c.retain_mut.ensures.filtered
+
+pub invariant_of-self-clause-sized : goal.invariant_of-self-clause-sized
+invariant_of-self-clause-sized c =
     let d = c.args.self.now in
     let t = c.args.trade in
-    let changed = c.change.ensures in
-    let kept = c.retain.ensures in
-    let items = kept.items ∙ ap (filter has_rest) changed.items in
-    record {
-      early = d.early;
-      few = omega (arith, kept.len, changed.len, d.few);
-      room = omega (arith, kept.capacity, changed.capacity, d.room);
-      fewer = d.fewer;
-      rooms = d.rooms;
-      listed = d.listed;
-      sized = ap (all_fit fit_order) items ∙ fit_kept fit_order has_rest (map (lowered_by t) (vec_items d.orders)) (fit_map fit_order (lowered_by t) (lowered_fit t) (vec_items d.orders) d.sized);
-      priced = d.priced;
-    }
+    let filled : c.retain_mut.new.self.items ≡ filter has_rest (map (lowered_by t) d.orders.items) = changed_and_kept _ has_rest (lowered_by t) _ (λ x b s y k. search rules) _ _ c.retain_mut.ensures.filtered in
+    let fit : LiveOrder → Type 0 = λ o. fit_order o ≡ true in
+    All-same fit _ _ filled (All-filter has_rest fit _ (fit_map fit_order (lowered_by t) (lowered_fit t) d.orders.items d.sized))

@@ -1,38 +1,19 @@
-use Rattle.std.proofs.Common.{vec_items, sym, ap, ◌∙◌, arith}
+use Rattle.std.proofs.Common.{◌≡◌, filter, map, rules, sym, ap, ◌∙◌}
+use Rattle.std.proofs.lemmas.Fn.{filter_same}
 use Rattle.rules.specs.Effects.{in_state, other_contract}
 use Rattle.settling.specs.Fits.{fit_contract, fit_next}
-use Rattle.desk.specs.Fits.{all_fit}
-use Rattle.desk.proofs.Fitting.{fit_kept, fit_map, in_state_fit}
+use Rattle.desk.proofs.Fitting.{fit_written, in_state_fit}
 use Rattle.desk.proofs.desk.Desk.settle.Goals as goal
 
-pub invariant_of-self : goal.invariant_of-self
-invariant_of-self c =
-    let d = c.args.self.now in
-    let t = c.args.turn in
-    let changed = c.change.ensures in
-    let fit = sym (ap fit_next c.in-Some.is) ∙ t.fit in
-    record {
-      early = d.early;
-      few = d.few;
-      room = d.room;
-      fewer = omega (arith, changed.len, d.fewer);
-      rooms = omega (arith, changed.capacity, d.rooms);
-      listed = d.listed;
-      sized = d.sized;
-      priced = ap (all_fit fit_contract) changed.items ∙ fit_map fit_contract (in_state t.number c.in-Some.state) (in_state_fit t.number c.in-Some.state fit) (vec_items d.contracts) d.priced;
-    }
+pub returns-in-None : goal.returns-in-None
+returns-in-None c =
+    let kept : c.retain.new.self.items ≡ filter (other_contract c.args.turn.number) c.args.self.now.contracts.items = filter_same _ _ _ (λ x b f' k. search rules) _ _ c.retain.ensures.filtered in
+    search rules
 
-pub invariant_of-self-in-None : goal.invariant_of-self-in-None
-invariant_of-self-in-None c =
+pub invariant_of-self-clause-priced : goal.invariant_of-self-clause-priced
+invariant_of-self-clause-priced c =
     let d = c.args.self.now in
-    let kept = c.retain.ensures in
-    record {
-      early = d.early;
-      few = d.few;
-      room = d.room;
-      fewer = omega (arith, kept.len, d.fewer);
-      rooms = omega (arith, kept.capacity, d.rooms);
-      listed = d.listed;
-      sized = d.sized;
-      priced = ap (all_fit fit_contract) kept.items ∙ fit_kept fit_contract (other_contract c.args.turn.number) (vec_items d.contracts) d.priced;
-    }
+    let n = c.args.turn.number in
+    let s = c.in-Some.state in
+    let fit = sym (ap fit_next c.in-Some.is) ∙ c.args.turn.fit in
+    fit_written fit_contract (in_state n s) (in_state_fit n s fit) d.contracts c.set_state.new.contracts (c.set_state.auto.contracts ∙ c.deref_mut.ensures.len) (c.set_state.ensures ∙ ap (map (in_state n s)) c.deref_mut.ensures.value) d.priced

@@ -1,0 +1,23 @@
+-- What is owed of the checks of a call to a book, and of the call. Assumes nothing.
+use Rattle.std.specs.Prelude.{◌≡◌, ℕ, Ok, Err, Result}
+use Rattle.rules.specs.declared.refusals.Refusal.{Refusal}
+use Rattle.rules.specs.declared.calls.Call.{Call}
+use Rattle.rules.specs.Checks.{checks}
+use Rattle.rules.specs.Limits.{Ledger}
+use Rattle.rules.specs.Rulings.{allowed}
+use Rattle.rules.specs.Runs.{Called}
+use Rattle.book.specs.declared.shows.Shows as shows
+
+module _ {B : Type 0} (s : shows.Ghosts B) where
+  -- the ledger of a book
+  abbrev pub ledger : B → Ledger
+  ledger b = (s.point b).ledger
+
+  -- a call to a book came out by the rules
+  abbrev pub Calls : B → Call → Result (ℕ × ℕ) Refusal → B → Type 0
+  Calls b c v b' = Called (s.point b) c v (s.point b')
+
+  -- the book's checks of a call let it pass, with what is then known of it, or the first that is met refuses it
+  abbrev pub Checked : {X : Type 0} → B → Call → (X → Type 0) → Result X Refusal → Type 0
+  Checked b c P (Ok x) = (allowed (checks (ledger b) c) ≡ Ok tt) × P x
+  Checked b c P (Err e) = allowed (checks (ledger b) c) ≡ Err e
