@@ -9,10 +9,10 @@ for archive in "$ZALDRIF_LIB" "$ZALDRIF_C_LIB"; do
     [[ -f $archive ]] || { echo "no such archive: '$archive'" >&2; exit 1; }
 done
 
-# one_object OUT: both archives as one object that shows the name of our function only. A Rust
+# one_object OUT: both archives as one object that shows the names of our functions only. A Rust
 # program links this, so that a standard library inside the archives cannot meet its own.
 one_object() {
-    ld -r --force-group-allocation -u zaldrif_run_day -o "$1" \
+    ld -r --force-group-allocation -u zaldrif_run_day -u zaldrif_run_flat_day -o "$1" \
         --start-group "$ZALDRIF_LIB" "$ZALDRIF_C_LIB" --end-group
-    objcopy --keep-global-symbol=zaldrif_run_day "$1"
+    objcopy --keep-global-symbol=zaldrif_run_day --keep-global-symbol=zaldrif_run_flat_day "$1"
 }

@@ -17,7 +17,7 @@ extern "C" {
 #define ZALDRIF_NO_MEMORY UINT64_MAX
 
 /*
- * Runs a day sheet and writes its report.
+ * Runs a day sheet by the percent rule and writes its report.
  *
  *   sheet, sheet_len    the bytes of the sheet. Above 65,536 bytes none of it is run, and the
  *                       report is the one line 0,R,S,56,0
@@ -47,6 +47,15 @@ uint64_t zaldrif_run_day(const uint8_t *sheet, size_t sheet_len,
                          uint64_t *money, size_t money_len,
                          uint64_t *goods, size_t goods_len,
                          uint8_t *report, size_t report_len);
+
+/*
+ * The same by the flat rule, where the rate of an instrument is the charge for a lot in kopecks, up
+ * to 1,000,000,000.
+ */
+uint64_t zaldrif_run_flat_day(const uint8_t *sheet, size_t sheet_len,
+                              uint64_t *money, size_t money_len,
+                              uint64_t *goods, size_t goods_len,
+                              uint8_t *report, size_t report_len);
 
 #ifdef __cplusplus
 }

@@ -1,5 +1,5 @@
 -- An event of a found contract: what the desk makes of it, and what the keepers say.
-use Rattle.std.proofs.Common.{◌≡◌, ℕ, ℤ, Some, Ok, Err, IsErrAnd, Option, Result, unwrap_or, sym, refl, ap, ◌∙◌, subst, ap₂}
+use Rattle.std.proofs.Common.{◌≡◌, ℕ, Some, Ok, Err, IsErrAnd, Option, Result, unwrap_or, sym, ap, ◌∙◌, subst, ap₂}
 use Rattle.std.specs.Option.{option_map}
 use Rattle.std.proofs.lemmas.Result.{err_from_is_err_and}
 use Rattle.keeper.specs.Meaning.{Meaning}
@@ -10,34 +10,30 @@ use Rattle.rules.specs.declared.refusals.Refusal.{Refusal}
 use Rattle.rules.specs.declared.calls.Call.TheVariants.{Settle}
 use Rattle.rules.specs.Checks.{checks}
 use Rattle.rules.specs.Entries.{entries}
-use Rattle.rules.specs.Limits.{Desk, Ledger, contract_at, contract_row, found_contract, free_clearing, no_contract, position}
-use Rattle.rules.specs.Rulings.{allowed, keepers_say}
+use Rattle.rules.specs.Limits.{Desk, Ledger, contract_at, found_contract, no_contract}
+use Rattle.rules.specs.Rulings.{keepers_say}
 use Rattle.rules.specs.Runs.{Called, Point, feed}
-use Rattle.rules.specs.Settling.{failing}
 use Rattle.settling.specs.declared.moves.Turn.{Turn}
-use Rattle.settling.specs.Meeting.{Turned, entry_of}
-use Rattle.desk.specs.Turns.{Turns, turn_checks}
-use Rattle.book.specs.Turning.{TurnsOut}
+use Rattle.settling.specs.Meeting.{entry_of}
+use Rattle.desk.specs.Turns.{Turns}
+use Rattle.settling.specs.declared.meeting.Occasion.{Occasion}
+use Rattle.book.specs.Turning.{TurnsOut, occasion}
 use Rattle.book.proofs.Allowing.{allowed_ok}
 
--- by the buyer's free clearing limit and the failing side's amount, the desk's turn is the ledger's
-module _ (b : Ledger) (n : ℕ) (e : Event) (k : Contract) (found : Some k ≡ found_contract n b.desk.contracts) (free : ℤ) (amount : ℕ) (limit : e ≡ Funding → free ≡ free_clearing b k.buyer) (has : amount ≡ position b (failing k)) where
-  there : contract_at b n ≡ k
-  there = ap (λ o. unwrap_or o no_contract) (sym found)
+-- at what the ledger has of its parties' money, the desk's turn of an event is the ledger's
+module _ (b : Ledger) (n : ℕ) where
+  turned_at : (e : Event) (r : Result Turn Refusal) → Turns b.charge b.desk n (occasion b (contract_at b n) e) r → TurnsOut b n e r
+  turned_at Funding (Ok t) h = (h.0, h.1, record { number = h.2.number; answers = h.2.answers; money = h.2.money; goods = h.2.goods; state = h.2.state })
+  turned_at (Delivery kg) (Ok t) h = (h.0, h.1, record { number = h.2.number; answers = h.2.answers; money = h.2.money; goods = h.2.goods; state = h.2.state })
+  turned_at Default (Ok t) h = h
+  turned_at Funding (Err f) h = h
+  turned_at (Delivery kg) (Err f) h = h
+  turned_at Default (Err f) h = h
 
-  asked : (d : Event) → e ≡ d → allowed (turn_checks b.desk n (free_clearing b (contract_at b n).buyer) d) ≡ allowed (turn_checks b.desk n free d)
-  asked Funding is = ap (λ x. allowed (turn_checks b.desk n x Funding)) (ap (λ c. free_clearing b c.buyer) there ∙ sym (limit is))
-  asked (Delivery kg) is = refl
-  asked Default is = refl
-
-  checked : allowed (checks b (Settle n e)) ≡ allowed (turn_checks b.desk n free e)
-  checked = asked e refl
-
-  pub turned_out : (r : Result Turn Refusal) → Turns b.charge b.desk n e free amount r → TurnsOut b n e r
-  turned_out (Ok t) h =
-      let P : ℕ → Type 0 = λ x. Turned b.charge (contract_row b n) x (contract_at b n) e t in
-      (checked ∙ h.0, h.1, subst P (has ∙ ap (λ c. position b (failing c)) (sym there)) h.2)
-  turned_out (Err f) h = checked ∙ h
+  pub turned_out : (e : Event) (k : Contract) (o : Occasion) (r : Result Turn Refusal) → Some k ≡ found_contract n b.desk.contracts → o ≡ occasion b k e → Turns b.charge b.desk n o r → TurnsOut b n e r
+  turned_out e k o r found is h =
+      let there : k ≡ contract_at b n = ap (λ x. unwrap_or x no_contract) found in
+      turned_at e r (subst (λ x. Turns b.charge b.desk n x r) (is ∙ ap (λ c. occasion b c e) there) h)
 
 -- a point with another desk and other keepers
 abbrev pub led_to : Point → Desk → Meaning → Meaning → Point

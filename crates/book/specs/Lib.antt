@@ -1,3 +1,4 @@
 pub mod Views
 pub mod Taking
 pub mod Turning
+pub mod Houses

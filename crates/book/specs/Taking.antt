@@ -1,11 +1,11 @@
 -- What is owed of the checks of a call to a book, and of the call. Assumes nothing.
-use Rattle.std.specs.Prelude.{◌≡◌, ℕ, Ok, Err, Result}
+use Rattle.std.specs.Prelude.{ℕ, Result}
 use Rattle.rules.specs.declared.refusals.Refusal.{Refusal}
 use Rattle.rules.specs.declared.calls.Call.{Call}
 use Rattle.rules.specs.Checks.{checks}
 use Rattle.rules.specs.Limits.{Ledger}
-use Rattle.rules.specs.Rulings.{allowed}
 use Rattle.rules.specs.Runs.{Called}
+use Rattle.desk.specs.Called as desk
 use Rattle.book.specs.declared.shows.Shows as shows
 
 module _ {B : Type 0} (s : shows.Ghosts B) where
@@ -19,5 +19,4 @@ module _ {B : Type 0} (s : shows.Ghosts B) where
 
   -- the book's checks of a call let it pass, with what is then known of it, or the first that is met refuses it
   abbrev pub Checked : {X : Type 0} → B → Call → (X → Type 0) → Result X Refusal → Type 0
-  Checked b c P (Ok x) = (allowed (checks (ledger b) c) ≡ Ok tt) × P x
-  Checked b c P (Err e) = allowed (checks (ledger b) c) ≡ Err e
+  Checked b c P r = desk.Checked (checks (ledger b) c) P r

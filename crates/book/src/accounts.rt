@@ -12,19 +12,18 @@ use crate::registers::{Member, Stock};
 use crate::shows::Shows;
 use charge::ChargeRule;
 use keeper::{Entry, Keeper};
-use posting::enter;
 use rules::calls::Account;
 use rules::refusals::Refusal;
 use rules::rows::Kind;
 
-/// The most that is brought, taken or shifted at once.
+/// The most that is brought, taken or shifted at once: the book's own limit, though the keepers' has the same number.
 const MOST: u64 = 1_000_000_000_000_000;
 
 /// Kopecks or kilograms that can be brought or taken.
 fn is_amount(amount: u64) -> bool
     ensures { result ≡ good_amount amount }
 {
-    amount >= 1 && amount <= MOST
+    (1..=MOST).contains(&amount)
 }
 
 impl<H: HalfOfDay, M: Keeper, G: Keeper, R: ChargeRule> Book<H, M, G, R> {
@@ -44,7 +43,7 @@ impl<H: HalfOfDay, M: Keeper, G: Keeper, R: ChargeRule> Book<H, M, G, R> {
         ensures { Calls ⟦<Self as Shows>⟧ self.old (Deposit member account amount) (alone result) self.new }
     {
         let receiver = self.check_money(member, account, amount)?.account(account);
-        enter(&mut self.house.money, Entry::Credit { receiver, amount }).map_err(Refusal::Money)
+        self.house.enter_money(Entry::Credit { receiver, amount })
     }
 
     /// Whether an instrument's goods are kept in a warehouse.
@@ -84,7 +83,7 @@ impl<H: HalfOfDay, M: Keeper, G: Keeper, R: ChargeRule> Book<H, M, G, R> {
             receiver,
             amount: kilograms,
         };
-        enter(&mut self.house.goods, entry).map_err(Refusal::Goods)
+        self.house.enter_goods(entry)
     }
 }
 
@@ -105,7 +104,7 @@ impl<M: Keeper, G: Keeper, R: ChargeRule> TradingBook<M, G, R> {
         ensures { Calls ⟦<Self as Shows>⟧ self.old (Withdraw member account amount) (alone result) self.new }
     {
         let giver = self.check_taking(member, account, amount)?.account(account);
-        enter(&mut self.house.money, Entry::Debit { giver, amount }).map_err(Refusal::Money)
+        self.house.enter_money(Entry::Debit { giver, amount })
     }
 
     /// Moves money between a member's two accounts, and answers what is then in position and in clearing.
@@ -123,7 +122,7 @@ impl<M: Keeper, G: Keeper, R: ChargeRule> TradingBook<M, G, R> {
             receiver: member.account(source.other()),
             amount,
         };
-        enter(&mut self.house.money, entry).map_err(Refusal::Money)?;
+        self.house.enter_money(entry)?;
         let position = self.amount(member, Account::Position);
         let clearing = self.amount(member, Account::Clearing);
         Ok((position, clearing))
@@ -161,6 +160,6 @@ impl<M: Keeper, G: Keeper, R: ChargeRule> TradingBook<M, G, R> {
             giver,
             amount: kilograms,
         };
-        enter(&mut self.house.goods, entry).map_err(Refusal::Goods)
+        self.house.enter_goods(entry)
     }
 }

@@ -1,8 +1,9 @@
 // The opening of the book, and the ends of its halves.
 ghost use Rattle.std.specs.Prelude.{◌≡◌, IfOk, Ok};
-ghost use Rattle.rules.specs.Law.{opened, start};
+ghost use Rattle.rules.specs.Law.{opened};
 ghost use Rattle.rules.specs.Runs.{Called};
 ghost use Rattle.rules.specs.declared.calls.Call.TheVariants.{EndSession, EndTrading};
+ghost use Rattle.book.specs.Houses.{start_of};
 
 use crate::book::{Book, SessionBook, TradingBook};
 use crate::halves::{Session, Trading};
@@ -21,7 +22,7 @@ impl<M: Keeper + Drop, G: Keeper + Drop, R: ChargeRule + Drop> TradingBook<M, G,
         rows: &[Row],
         house: House<M, G, R>,
     ) -> Result<TradingBook<M, G, R>, AllocError>
-        ensures { IfOk result (λ b. ⟦<Self as Shows>⟧.point b ≡ opened (start M.Registers G.Registers R.ChargeRule rows.now house.money house.goods house.rule)) }
+        ensures { IfOk result (λ b. ⟦<Self as Shows>⟧.point b ≡ opened (start_of M.Registers G.Registers R.ChargeRule house rows.now)) }
     {
         let desk = Desk::open(heap, &house.rule, rows)?;
         Ok(Book {

@@ -1,7 +1,9 @@
 // Who is known, and what is free.
 ghost use Rattle.std.specs.Prelude.{◌≡◌, ◌≤◌, true, false, pos, ◌-ℤ◌, MatchResult};
+ghost use Rattle.keeper.specs.Meaning.{limit};
 ghost use Rattle.rules.specs.Limits.{amount, free_goods, free_money, known, stock};
 ghost use Rattle.rules.specs.declared.refusals.Refusal.TheVariants.{UnknownMember};
+ghost use Rattle.desk.specs.Fits.{most_held};
 ghost use Rattle.book.specs.Taking.{ledger};
 
 use crate::book::Book;
@@ -16,8 +18,8 @@ use rules::refusals::Refusal;
 
 /// An amount less the holds on it, around zero.
 fn difference(amount: u64, holds: u64) -> i64
-    requires amount { amount ≤ 1000000000000000 }
-    requires holds { holds ≤ 102400000000000000 }
+    requires amount { amount ≤ limit }
+    requires holds { holds ≤ most_held }
     ensures { result ≡ pos amount -ℤ pos holds }
 {
     amount as i64 - holds as i64
@@ -46,7 +48,7 @@ impl<H: HalfOfDay, M: Keeper, G: Keeper, R: ChargeRule> Book<H, M, G, R> {
     /// What is in a register of money.
     pub(crate) fn amount(&self, member: Member, account: Account) -> u64
         ensures value { result ≡ amount (ledger ⟦<Self as Shows>⟧ self.now) member.number account }
-        ensures bound { result ≤ 1000000000000000 }
+        ensures bound { result ≤ limit }
     {
         held(&self.house.money, member.account(account))
     }
@@ -54,7 +56,7 @@ impl<H: HalfOfDay, M: Keeper, G: Keeper, R: ChargeRule> Book<H, M, G, R> {
     /// What is in a register of goods.
     pub(crate) fn stock(&self, of: Stock) -> u64
         ensures value { result ≡ stock (ledger ⟦<Self as Shows>⟧ self.now) of.member.number of.instrument }
-        ensures bound { result ≤ 1000000000000000 }
+        ensures bound { result ≤ limit }
     {
         held(&self.house.goods, of.register())
     }

@@ -1,11 +1,11 @@
 // What staff bring to a session book: fundings, deliveries and defaults.
-ghost use Rattle.std.specs.Prelude.{◌≡◌};
-ghost use Rattle.rules.specs.Limits.{free_clearing};
+ghost use Rattle.std.specs.Prelude.{◌≡◌, true};
 ghost use Rattle.rules.specs.Settling.{failing};
 ghost use Rattle.rules.specs.declared.calls.Call.TheVariants.{Settle};
 ghost use Rattle.rules.specs.declared.contracts.Event.TheVariants.{Default, Delivery, Funding};
 ghost use Rattle.desk.specs.Called.{alone};
-ghost use Rattle.book.specs.Turning.{TurnsOut};
+ghost use Rattle.settling.specs.Fits.{fit_contract};
+ghost use Rattle.book.specs.Turning.{TurnsOut, occasion};
 ghost use Rattle.book.specs.Taking.{Calls, ledger};
 
 use crate::book::SessionBook;
@@ -17,7 +17,7 @@ use posting::post_moves;
 use rules::calls::Account;
 use rules::contracts::{Contract, Event, State};
 use rules::refusals::Refusal;
-use settling::Turn;
+use settling::{Occasion, Turn};
 
 /// The side that fails if the contract defaults: the buyer until it is funded, and then the seller.
 fn failing_side(contract: &Contract) -> u64
@@ -30,13 +30,27 @@ fn failing_side(contract: &Contract) -> u64
 }
 
 impl<M: Keeper, G: Keeper, R: ChargeRule> SessionBook<M, G, R> {
-    /// The buyer's free clearing limit; a funding alone asks for it.
-    fn limit_at(&self, event: Event, buyer: Member) -> i64
-        ensures { event ≡ Funding → result ≡ free_clearing (ledger ⟦<Self as Shows>⟧ self.now) buyer.number }
+    /// An event of a contract, with what it looks at of its parties' money.
+    fn occasion(&self, contract: &Contract, event: Event) -> Occasion
+        requires { fit_contract contract.now ≡ true }
+        ensures { result ≡ occasion (ledger ⟦<Self as Shows>⟧ self.now) contract.now event }
     {
         match event {
-            Event::Funding => self.free_money(buyer, Account::Clearing),
-            _ => 0,
+            Event::Funding => {
+                let buyer = Member {
+                    number: contract.buyer,
+                };
+                let free = self.free_money(buyer, Account::Clearing);
+                Occasion::Funding { free }
+            }
+            Event::Delivery { kilograms } => Occasion::Delivery { kilograms },
+            Event::Default => {
+                let failing = Member {
+                    number: failing_side(contract),
+                };
+                let amount = self.amount(failing, Account::Position);
+                Occasion::Default { amount }
+            }
         }
     }
 
@@ -48,16 +62,8 @@ impl<M: Keeper, G: Keeper, R: ChargeRule> SessionBook<M, G, R> {
             .desk
             .contract(contract)
             .ok_or(Refusal::ContractNotLive)?;
-        let buyer = Member {
-            number: found.buyer,
-        };
-        let failing = Member {
-            number: failing_side(&found),
-        };
-        let free = self.limit_at(event, buyer);
-        let amount = self.amount(failing, Account::Position);
-        self.desk
-            .turn(&self.house.rule, contract, event, free, amount)
+        let occasion = self.occasion(&found, event);
+        self.desk.turn(&self.house.rule, contract, occasion)
     }
 
     /// An event of a live contract: refused by its own state and the day, then by the keepers, which are both
@@ -80,8 +86,7 @@ impl<M: Keeper, G: Keeper, R: ChargeRule> SessionBook<M, G, R> {
     pub fn fund(&mut self, contract: u64) -> Result<u64, Refusal>
         ensures { Calls ⟦<Self as Shows>⟧ self.old (Settle contract Funding) (alone result) self.new }
     {
-        let (due, _) = self.settle(contract, Event::Funding)?;
-        Ok(due)
+        self.settle(contract, Event::Funding).map(|(due, _)| due)
     }
 
     /// Reports kilograms delivered, and answers those counted and the payment for them.

@@ -4,6 +4,7 @@ ghost use Rattle.std.specs.List.{range_with_len};
 ghost use Rattle.rules.specs.Limits.{is_short};
 ghost use Rattle.rules.specs.Orders.{order_hold, order_limit};
 ghost use Rattle.rules.specs.declared.calls.Call.TheVariants.{Cancel, Execute, Place, Rerate};
+ghost use Rattle.charge.specs.Charges.{highest};
 ghost use Rattle.desk.specs.Called.{Holds, alone, amount_of};
 ghost use Rattle.book.specs.Taking.{Calls, Checked, ledger};
 
@@ -24,7 +25,7 @@ impl<M: Keeper, G: Keeper, R: ChargeRule> TradingBook<M, G, R> {
         requires member { member.number ≡ order.now.member }
         requires instrument { order.now.instrument ≤ 15 }
         requires register { Holds (ledger ⟦<Self as Shows>⟧ self.now) order.now hold }
-        requires amount { amount_of hold ≤ 100000000000000 }
+        requires amount { amount_of hold ≤ highest }
         ensures { result ≡ not (int_lt (order_limit (ledger ⟦<Self as Shows>⟧ self.now) order.now) (pos (amount_of hold))) }
     {
         let free = match hold {

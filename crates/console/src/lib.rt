@@ -4,11 +4,11 @@
 use book::House;
 use charge::PercentRule;
 use keeper::TableKeeper;
-use report::{ReportLine, run_sheet};
+use report::{MOST_BYTES, ReportLine, run_sheet};
 use std::io::{BufWriter, Read, Write};
 
 /// One byte more than a sheet may have: enough to see that it is too long.
-const MOST_READ: u64 = 65_537;
+const MOST_READ: u64 = MOST_BYTES as u64 + 1;
 
 const MONEY_REGISTERS: usize = 128;
 

@@ -1,9 +1,9 @@
 -- What the limits of orders, rows and contracts give.
-use Rattle.std.proofs.Common.{◌≡◌, ℕ, ◌-◌, Bool, true, false, cond, ◌||◌, eqb, List, Vec, length, map, ◌∙◌, arith}
+use Rattle.std.proofs.Common.{◌≡◌, ℕ, ◌-◌, Bool, true, false, cond, ◌||◌, eqb, List, [], ◌∷◌, ◌++◌, Vec, length, map, filter, ap, ◌∙◌, arith}
 use Rattle.std.specs.List.{AllPass}
 use Rattle.std.proofs.lemmas.Bool.Decides.{nat_tests}
 use Rattle.std.proofs.lemmas.List.{with_items_is}
-use Rattle.std.proofs.lemmas.List.Elements.{All-map, All-same, All-weaker}
+use Rattle.std.proofs.lemmas.List.Elements.{All-filter, All-map, All-push, All-same, All-weaker}
 use Rattle.std.specs.Vec.{with_items}
 use Rattle.rules.specs.declared.rows.Row.{Row}
 use Rattle.rules.specs.declared.orders.LiveOrder.{LiveOrder}
@@ -16,12 +16,22 @@ use Rattle.settling.specs.Fits.{fit_row, fit_contract, fit_state}
 use Rattle.desk.specs.Fits.{fit_order}
 
 module _ {X : Type 0} (p : X → Bool) where
-  pub fit_map : (f : X → X) → ((x : X) → p x ≡ true → p (f x) ≡ true) → (xs : List X) → AllPass p xs → AllPass p (map f xs)
-  fit_map f each xs all = All-map (λ x. p x ≡ true) f xs (All-weaker (λ x. p x ≡ true) (λ x. p (f x) ≡ true) each xs all)
+  abbrev Fit : X → Type 0
+  Fit x = p x ≡ true
+
+  -- a list whose elements are changed, or of which some are kept, or one with one more
+  pub fit_mapped : (f : X → X) → ((x : X) → p x ≡ true → p (f x) ≡ true) → (xs ys : List X) → ys ≡ map f xs → AllPass p xs → AllPass p ys
+  fit_mapped f each xs ys is all = All-same Fit _ _ is (All-map Fit f xs (All-weaker Fit (λ x. Fit (f x)) each xs all))
+
+  pub fit_kept : (keep : X → Bool) (xs ys : List X) → ys ≡ filter keep xs → AllPass p xs → AllPass p ys
+  fit_kept keep xs ys is all = All-same Fit _ _ is (All-filter keep Fit xs all)
+
+  pub fit_push : (xs ys : List X) (y : X) → ys ≡ xs ++ y ∷ [] → p y ≡ true → AllPass p xs → AllPass p ys
+  fit_push xs ys y is fit all = All-same Fit _ _ is (All-push Fit xs y all fit)
 
   -- what is written back to a vector, each element changed
-  pub fit_written : {Z : Type 0} (f : X → X) → ((x : X) → p x ≡ true → p (f x) ≡ true) → (v : Vec X Z) (ws : List X) → length ws ≡ v.len → ws ≡ map f v.items → AllPass p v.items → AllPass p (with_items v ws).items
-  fit_written f each v ws long is all = All-same (λ x. p x ≡ true) _ _ (with_items_is v ws long ∙ is) (fit_map f each v.items all)
+  pub written : {Z : Type 0} (f : X → X) (v : Vec X Z) (lent ws : List X) → lent ≡ v.items → length ws ≡ v.len → ws ≡ map f lent → (with_items v ws).items ≡ map f v.items
+  written f v lent ws same long is = with_items_is v ws long ∙ is ∙ ap (map f) same
 
   -- a change of some elements
   fit_changed : (t : Bool) (x y : X) → p x ≡ true → p y ≡ true → p (cond t x y) ≡ true

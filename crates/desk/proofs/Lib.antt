@@ -2,4 +2,4 @@ pub mod Lists
 pub mod Fitting
 pub mod Openings
 pub mod Holding
-pub mod Searches
+pub mod Rising

@@ -1,11 +1,12 @@
 -- Lists whose elements are changed in place, or of which some are kept.
-use Rattle.std.proofs.Common.{◌≡◌, ℕ, ◌+◌, Bool, true, false, cond, not, eqb, List, [], ◌∷◌, length, map, count_by, filter, get_or, take, drop, set, ◌<◌, ◌++◌, sym, refl, subst, ap, ◌∙◌, arith}
+use Rattle.std.proofs.Common.{◌≡◌, ℕ, ◌+◌, Bool, true, false, cond, not, List, [], ◌∷◌, length, map, count_by, filter, get_or, take, drop, set, ◌<◌, ◌++◌, sym, refl, subst, ap, ◌∙◌, arith}
 use Rattle.std.specs.List.Retain.{RetainsInTurn}
 use Rattle.std.proofs.lemmas.Bool.{cond-true, cond-false, eq-eqb, ne_eqb}
 use Rattle.std.proofs.lemmas.List.{get_or_default}
 use Rattle.std.proofs.lemmas.List.Edits.{map_over_more}
 use Rattle.std.proofs.lemmas.List.Filters.{length-filter_both}
 use Rattle.std.proofs.lemmas.List.Sums.{length-filter}
+use Rattle.desk.specs.Numbers.{changed}
 
 not_not : (b : Bool) → b ≡ not (not b)
 not_not true = refl
@@ -29,17 +30,14 @@ module _ {X : Type 0} where
 
   -- a loop changes, in place, each element of a number: one element on
   module _ (number : X → ℕ) (n : ℕ) (change : X → X) where
-    abbrev pub changed : X → X
-    changed x = cond (eqb (number x) n) (change x) x
-
-    module _ (xs ys : List X) (i : ℕ) (d : X) (long : length ys ≡ length xs) (so_far : ys ≡ map changed (take i xs) ++ drop i xs) (h : i < length xs) (after : List X) where
-      set_on : (y : X) → y ≡ changed (get_or ys i d) → after ≡ set ys i y → after ≡ map changed (take (i + 1) xs) ++ drop (i + 1) xs
+    module _ (xs ys : List X) (i : ℕ) (d : X) (long : length ys ≡ length xs) (so_far : ys ≡ map (changed number n change) (take i xs) ++ drop i xs) (h : i < length xs) (after : List X) where
+      set_on : (y : X) → y ≡ changed number n change (get_or ys i d) → after ≡ set ys i y → after ≡ map (changed number n change) (take (i + 1) xs) ++ drop (i + 1) xs
       set_on y e is =
           let inside : i < length ys = omega arith in
-          is ∙ ap (set ys i) e ∙ map_over_more changed xs ys i (get_or ys i d) h so_far (get_or_default ys i d (get_or ys i d) inside)
+          is ∙ ap (set ys i) e ∙ map_over_more (changed number n change) xs ys i (get_or ys i d) h so_far (get_or_default ys i d (get_or ys i d) inside)
 
-      pub changed_hit : after ≡ set ys i (change (get_or ys i d)) → number (get_or ys i d) ≡ n → after ≡ map changed (take (i + 1) xs) ++ drop (i + 1) xs
+      pub changed_hit : after ≡ set ys i (change (get_or ys i d)) → number (get_or ys i d) ≡ n → after ≡ map (changed number n change) (take (i + 1) xs) ++ drop (i + 1) xs
       changed_hit is e = set_on _ (sym (cond-true _ _ _ (eq-eqb _ n e))) is
 
-      pub changed_miss : after ≡ set ys i (get_or ys i d) → (number (get_or ys i d) ≡ n → ⊥) → after ≡ map changed (take (i + 1) xs) ++ drop (i + 1) xs
+      pub changed_miss : after ≡ set ys i (get_or ys i d) → (number (get_or ys i d) ≡ n → ⊥) → after ≡ map (changed number n change) (take (i + 1) xs) ++ drop (i + 1) xs
       changed_miss is ne = set_on _ (sym (cond-false _ _ _ (ne_eqb _ n ne))) is

@@ -10,8 +10,8 @@ use Rattle.rules.specs.Orders.{is_before, is_in_goods, order_hold}
 use Rattle.rules.specs.Checks.{Check, checks, most_live}
 use Rattle.rules.specs.Rulings.{allowed}
 use Rattle.rules.specs.Effects.{answer, desk_after}
-use Rattle.desk.specs.declared.orders.Hold.{Hold}
-use Rattle.desk.specs.declared.orders.Hold.TheVariants.{Money, Goods}
+use Rattle.desk.specs.declared.holds.Hold.{Hold}
+use Rattle.desk.specs.declared.holds.Hold.TheVariants.{Money, Goods}
 
 -- it came out by the rules: accepted with its answer and its effect, or refused and nothing changed
 abbrev pub DeskCalled : Ledger → Call → Result (ℕ × ℕ) Refusal → Desk → Type 0

@@ -1,4 +1,5 @@
 pub mod Fits
+pub mod Numbers
 pub mod Views
 pub mod Called
 pub mod Turns

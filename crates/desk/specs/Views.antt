@@ -13,10 +13,10 @@ desk_of h d =
       half = h;
       day = d.day;
       rows = vec_items d.rows;
-      orders = vec_items d.orders;
-      contracts = vec_items d.contracts;
-      last_order = d.last_order;
-      last_contract = d.last_contract;
+      orders = vec_items d.orders.items;
+      contracts = vec_items d.contracts.items;
+      last_order = d.orders.last;
+      last_contract = d.contracts.last;
     }
 
 -- a row is taken into those that are listed so far

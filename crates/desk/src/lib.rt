@@ -5,11 +5,12 @@ mod days;
 mod desk;
 mod finding;
 mod holds;
+mod live;
 mod opening;
 mod orders;
 mod trades;
 mod turns;
 
 pub use desk::Desk;
-pub use orders::Hold;
-pub use settling::{Move, Turn, goods_register, money_register};
+pub use holds::Hold;
+pub use settling::{Move, Occasion, Turn, goods_register, money_register};

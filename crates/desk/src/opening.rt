@@ -8,12 +8,10 @@ ghost use Rattle.desk.specs.Views.{admits, desk_of, fresh_desk};
 
 use crate::desk::Desk;
 use crate::finding::find;
+use crate::live::Live;
 use charge::ChargeRule;
 use rules::rows::Row;
 use std::alloc::{AllocError, Global};
-
-/// The orders, and the contracts, that can be live at once.
-pub(crate) const MOST_LIVE: usize = 256;
 
 /// Whether a row's values are within their limits, under a top rate.
 fn is_good(row: &Row, top: u64) -> bool
@@ -53,16 +51,14 @@ impl Desk {
     pub fn open<R: ChargeRule>(heap: Global, rule: &R, rows: &[Row]) -> Result<Desk, AllocError>
         ensures { IfOk result (λ d. desk_of trading d ≡ fresh_desk (in_force (R.ChargeRule.top rule.now) rows.now)) }
     {
-        let orders = Vec::with_capacity(heap, MOST_LIVE)?;
-        let contracts = Vec::with_capacity(heap, MOST_LIVE)?;
+        let orders = Live::open(heap)?;
+        let contracts = Live::open(heap)?;
         let rows = rows_in_force(heap, rows, rule.top())?;
         Ok(Desk {
             day: 0,
             rows,
             orders,
             contracts,
-            last_order: 0,
-            last_contract: 0,
         })
     }
 }

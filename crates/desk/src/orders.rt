@@ -6,36 +6,18 @@ ghost use Rattle.rules.specs.Orders.{is_before, unfilled};
 ghost use Rattle.rules.specs.Terms.{good_order};
 ghost use Rattle.rules.specs.declared.calls.Call.TheVariants.{Cancel};
 ghost use Rattle.desk.specs.Called.{Changes, Checked, DeskCalled, Holds, alone, amount_of, order_checks};
+ghost use Rattle.charge.specs.Charges.{highest};
 ghost use Rattle.desk.specs.Fits.{fit_order};
 ghost use Rattle.settling.specs.Fits.{fit_row};
 ghost use Rattle.desk.specs.Views.{charged, desk_of, uncharged};
 
 use crate::days::LAST_DAY;
 use crate::desk::Desk;
-use crate::holds::{order_goods, order_money};
-use crate::opening::MOST_LIVE;
+use crate::holds::{Hold, is_in_goods, order_goods, order_money};
 use charge::ChargeRule;
-use rules::orders::{LiveOrder, Order, Side};
+use rules::orders::{LiveOrder, Order};
 use rules::refusals::Refusal;
-use rules::rows::{Kind, Row};
-
-/// What an order would hold of its member's: kopecks of the position register, or kilograms of the goods register.
-#[derive(Clone, Copy)]
-pub enum Hold {
-    Money(u64),
-    Goods(u64),
-}
-
-impl Hold {
-    /// How much it is, of either.
-    pub fn amount(self) -> u64
-        ensures { result ≡ amount_of self }
-    {
-        match self {
-            Hold::Money(amount) | Hold::Goods(amount) => amount,
-        }
-    }
-}
+use rules::rows::Row;
 
 /// An order as it comes to life: no lot of it is traded.
 fn unfilled(order: Order) -> LiveOrder
@@ -67,7 +49,7 @@ impl Desk {
     /// What an order is refused for by the desk, or the row of its instrument.
     fn check_order(&self, order: &Order) -> Result<Row, Refusal>
         ensures checked { Checked (order_checks (uncharged self.now) order.now) (λ row. row ≡ row_of self.now.rows.items order.now.instrument) result }
-        ensures limits { IfOk result (λ row. (fit_row row ≡ true) × (order.now.instrument ≤ 15) × (fit_order (unfilled order.now) ≡ true) × (vec_len self.now.orders < 256)) }
+        ensures limits { IfOk result (λ row. (fit_row row ≡ true) × (order.now.instrument ≤ 15) × (fit_order (unfilled order.now) ≡ true) × (self.now.orders.last < order.now.number) × (vec_len self.now.orders.items < 256)) }
     {
         if order.member > 63 {
             return Err(Refusal::UnknownMember);
@@ -79,10 +61,10 @@ impl Desk {
         if is_past(order, self.day) {
             return Err(Refusal::PastDay);
         }
-        if order.number <= self.last_order {
+        if self.orders.is_spent(order.number) {
             return Err(Refusal::OrderNumber);
         }
-        if self.orders.len() >= MOST_LIVE {
+        if self.orders.is_full() {
             return Err(Refusal::OrdersFull);
         }
         Ok(row)
@@ -91,24 +73,24 @@ impl Desk {
     /// What a new order would hold, or why the desk refuses it.
     pub fn admit<R: ChargeRule>(&self, rule: &R, order: &Order) -> Result<Hold, Refusal>
         ensures checked { Checked (order_checks (charged (R.ChargeRule.charge rule.now) self.now) order.now) (Holds (charged (R.ChargeRule.charge rule.now) self.now) order.now) result }
-        ensures limits { IfOk result (λ hold. (amount_of hold ≤ 100000000000000) × (order.now.instrument ≤ 15)) }
+        ensures limits { IfOk result (λ hold. (amount_of hold ≤ highest) × (order.now.instrument ≤ 15)) }
     {
         let row = self.check_order(order)?;
         let live = unfilled(*order);
-        match (row.kind, order.side) {
-            (Kind::Warehouse, Side::Sell) => Ok(Hold::Goods(order_goods(&row, &live))),
-            _ => Ok(Hold::Money(order_money(rule, &row, &live))),
-        }
+        Ok(if is_in_goods(&row, order) {
+            Hold::Goods(order_goods(&row, &live))
+        } else {
+            Hold::Money(order_money(rule, &row, &live))
+        })
     }
 
     /// Takes a new order, all its lots as rest; one that the desk refuses leaves it as it was. Whose order it is,
     /// and what its member has, is for the book to see to.
     pub fn place(&mut self, order: Order) -> Result<(), Refusal>
-        ensures { Changes (order_checks (uncharged self.old) order) (desk_of trading self.old) (with_orders (desk_of trading self.old) (self.old.orders.items ++ unfilled order ∷ []) order.number) result (desk_of trading self.new) }
+        ensures { Changes (order_checks (uncharged self.old) order) (desk_of trading self.old) (with_orders (desk_of trading self.old) (self.old.orders.items.items ++ unfilled order ∷ []) order.number) result (desk_of trading self.new) }
     {
         self.check_order(&order)?;
-        self.orders.push_reserved(unfilled(order));
-        self.last_order = order.number;
+        self.orders.push(unfilled(order));
         Ok(())
     }
 
@@ -117,7 +99,7 @@ impl Desk {
         ensures { DeskCalled (uncharged self.old) (Cancel number) (alone result) (desk_of trading self.new) }
     {
         let live = self.order(number).ok_or(Refusal::OrderNotLive)?;
-        self.orders.retain(|other| other.order.number != number);
+        self.orders.end(number);
         Ok(live.rest)
     }
 }

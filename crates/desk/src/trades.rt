@@ -10,7 +10,6 @@ ghost use Rattle.settling.specs.Fits.{fit_contract};
 ghost use Rattle.desk.specs.Views.{charged, desk_of, uncharged};
 
 use crate::desk::Desk;
-use crate::opening::MOST_LIVE;
 use charge::ChargeRule;
 use rules::contracts::{Contract, State, Trade};
 use rules::orders::{LiveOrder, Order, Side};
@@ -25,8 +24,7 @@ fn is_match(buy: &Order, sell: &Order, price: u64) -> bool
     matches!((buy.side, sell.side), (Side::Buy, Side::Sell))
         && buy.instrument == sell.instrument
         && buy.member != sell.member
-        && sell.price <= price
-        && price <= buy.price
+        && (sell.price..=buy.price).contains(&price)
 }
 
 /// Whether both orders have so many lots left.
@@ -60,7 +58,7 @@ impl Desk {
     /// The contract that a trade makes, or why it is refused.
     fn contract_of(&self, trade: Trade) -> Result<Contract, Refusal>
         ensures checked { Checked (checks (uncharged self.now) (Execute trade)) (λ k. k ≡ contract_of (uncharged self.now) trade) result }
-        ensures limits { IfOk result (λ k. (fit_contract k ≡ true) × (vec_len self.now.contracts < 256)) }
+        ensures limits { IfOk result (λ k. (fit_contract k ≡ true) × (self.now.contracts.last < trade.contract) × (k.trade ≡ trade) × (vec_len self.now.contracts.items < 256)) }
     {
         let buy = self.order(trade.buy).ok_or(Refusal::OrderNotLive)?;
         let sell = self.order(trade.sell).ok_or(Refusal::OrderNotLive)?;
@@ -70,10 +68,10 @@ impl Desk {
         if !is_filled(trade.lots, &buy, &sell) {
             return Err(Refusal::BadLots);
         }
-        if trade.contract <= self.last_contract {
+        if self.contracts.is_spent(trade.contract) {
             return Err(Refusal::ContractNumber);
         }
-        if self.contracts.len() >= MOST_LIVE {
+        if self.contracts.is_full() {
             return Err(Refusal::ContractsFull);
         }
         let row = self.row_or_none(buy.order.instrument);
@@ -100,17 +98,16 @@ impl Desk {
         let of_buyer = buyer_charge(rule, &row, &contract);
         let of_seller = seller_charge(rule, &row, &contract);
         self.fill(trade);
-        self.contracts.push_reserved(contract);
-        self.last_contract = trade.contract;
+        self.contracts.push(contract);
         Ok((of_buyer, of_seller))
     }
 
     /// Lowers the rests of a trade's two orders; an order with no rest ends.
     fn fill(&mut self, trade: Trade)
-        ensures orders { self.new.orders.items ≡ filter has_rest (map (lowered_by trade) self.old.orders.items) }
-        ensures rest { (self.new.day ≡ self.old.day) × (self.new.rows ≡ self.old.rows) × (self.new.contracts ≡ self.old.contracts) × (self.new.last_order ≡ self.old.last_order) × (self.new.last_contract ≡ self.old.last_contract) }
+        ensures orders { self.new.orders.items.items ≡ filter has_rest (map (lowered_by trade) self.old.orders.items.items) }
+        ensures rest { (self.new.day ≡ self.old.day) × (self.new.rows ≡ self.old.rows) × (self.new.contracts ≡ self.old.contracts) × (self.new.orders.last ≡ self.old.orders.last) }
     {
-        self.orders.retain_mut(|live| {
+        self.orders.items.retain_mut(|live| {
             lower(live, &trade);
             live.rest > 0
         });
@@ -125,9 +122,7 @@ impl Desk {
     ) -> Result<(), Refusal>
         ensures { Changes (rating_checks (R.ChargeRule.top rule.now) (desk_of trading self.old) instrument rate) (desk_of trading self.old) (with_rows (desk_of trading self.old) (map (rerated instrument rate) self.old.rows.items)) result (desk_of trading self.new) }
     {
-        if self.row(instrument).is_none() {
-            return Err(Refusal::NoInstrument);
-        }
+        self.row(instrument).ok_or(Refusal::NoInstrument)?;
         if rate > rule.top() {
             return Err(Refusal::BadValue);
         }

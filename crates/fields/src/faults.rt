@@ -1,6 +1,6 @@
 // Why a line is not in its form.
 ghost use Rattle.std.specs.Prelude.{◌≡◌};
-ghost use Rattle.fields.specs.Faults.{of_sheet, shown};
+ghost use Rattle.fields.specs.Faults.{shown};
 
 use rules::refusals::{Layer, Shown};
 
@@ -18,25 +18,21 @@ pub enum LineFault {
 }
 
 impl LineFault {
-    /// What a report shows of the fault.
+    /// What a report shows of the fault. By name and not by From, as of any refusal: it leaves out what the fault is. A
+    /// match, so that each number stands beside its cause.
     pub fn shown(self) -> Shown
         ensures { result ≡ shown self }
     {
-        match self {
-            LineFault::LongLine => of_sheet(51, 0),
-            LineFault::UnknownVerb => of_sheet(52, 0),
-            LineFault::FieldCount => of_sheet(53, 0),
-            LineFault::NotInForm(place) => of_sheet(54, u64::from(place)),
+        let (number, place) = match self {
+            LineFault::LongLine => (51, 0),
+            LineFault::UnknownVerb => (52, 0),
+            LineFault::FieldCount => (53, 0),
+            LineFault::NotInForm(place) => (54, u64::from(place)),
+        };
+        Shown {
+            layer: Layer::Sheet,
+            number,
+            place,
         }
-    }
-}
-
-fn of_sheet(number: u64, place: u64) -> Shown
-    ensures { result ≡ of_sheet number place }
-{
-    Shown {
-        layer: Layer::Sheet,
-        number,
-        place,
     }
 }

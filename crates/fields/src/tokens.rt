@@ -2,7 +2,8 @@
 ghost use Rattle.std.specs.Prelude.{◌≡◌, true};
 ghost use Rattle.fields.specs.Sorting.{is_sorted, field_text};
 
-/// A field by how it begins: with a letter or another sign, with a digit, or not at all.
+/// A field by how it begins: with a letter or another sign, with a digit, or not at all. It is a rule of the project
+/// that fields are parts of the line by kind: a reader of a value sees the kind before the bytes, and copies none.
 #[derive(Clone, Copy)]
 pub enum Field<'a> {
     Word(&'a [u8]),

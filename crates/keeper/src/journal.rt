@@ -5,10 +5,7 @@ ghost use Rattle.keeper.specs.Meaning.{Meaning, amount_at, limit, verdict, worth
 ghost use Rattle.keeper.specs.Journal.{balances, came_in, held_after, in_turn, journaled, total_after, went_out, written_down};
 
 use crate::entries::{Entry, KeeperFault};
-use crate::keepers::{Keeper, Registers, vet};
-
-/// The most registers that a journal keeper has.
-const REGISTERS: usize = 1024;
+use crate::keepers::{Keeper, REGISTERS, Registers, vet};
 
 /// The most places that a journal keeper writes.
 const PLACES: usize = 65_535;
@@ -100,6 +97,8 @@ impl Keeper for JournalKeeper<'_> {
         ensures answer { result ≡ verdict (⟦<Self as Registers>⟧.meaning self.old) entry }
         ensures follows { Follows (⟦<Self as Registers>⟧.meaning self.old) entry result (⟦<Self as Registers>⟧.meaning self.new) }
         ensures places { self.new.places.now ≡ written_down result self.old.written entry self.old.places.now }
+        ensures room { self.new.room ≡ self.old.room }
+        ensures written { MatchResult result (λ _. self.new.written ≡ self.old.written + 1) (λ _. self.new.written ≡ self.old.written) }
     {
         let total = self.total;
         vet(self, total, entry)?;

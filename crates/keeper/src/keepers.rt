@@ -7,6 +7,9 @@ ghost use Rattle.keeper.specs.declared.entries.KeeperFault.TheVariants.{BadAmoun
 
 use crate::entries::{Entry, KeeperFault, LIMIT};
 
+/// The most registers that a keeper of either kind here has.
+pub(crate) const REGISTERS: usize = 1024;
+
 /// The questions that a keeper answers. Its spare is the room that it has for entries, the need of an entry the
 /// room that it would take.
 pub trait Registers {
@@ -42,7 +45,7 @@ pub trait Keeper: Registers {
 fn vet_amount(amount: u64) -> Result<(), KeeperFault>
     ensures { result ≡ (if amount == 0 || nat_lt limit amount then Err BadAmount else Ok tt) }
 {
-    if amount == 0 || amount > LIMIT {
+    if !(1..=LIMIT).contains(&amount) {
         return Err(KeeperFault::BadAmount);
     }
     Ok(())

@@ -4,10 +4,7 @@ ghost use Rattle.std.proofs.Common.{lit≤};
 ghost use Rattle.keeper.specs.Meaning.{Meaning, limit, lowered, raised, tabled, verdict, Follows};
 
 use crate::entries::{Entry, KeeperFault};
-use crate::keepers::{Keeper, Registers, vet};
-
-/// The most registers that a table keeper has.
-const REGISTERS: usize = 1024;
+use crate::keepers::{Keeper, REGISTERS, Registers, vet};
 
 /// A keeper whose amounts are the first places of a list; it always has room, and leaves the other places alone.
 #[derive(Drop)]

@@ -19,6 +19,11 @@ abbrev pub Tells : Meaning → Entry → Result ℕ EntryFault → Meaning → T
 Tells m e (Ok v) m' = Entered m e (Ok tt) m' × (v ≡ slice_index m'.amounts (register_of e))
 Tells m e (Err f) m' = Entered m e (Err f) m'
 
+-- the same, where a refusal says which keeper it is of
+abbrev pub Answers : (EntryFault → Refusal) → Meaning → Entry → Result ℕ Refusal → Meaning → Type 0
+Answers of m e (Ok v) m' = Tells m e (Ok v) m'
+Answers of m e (Err d) m' = (f : EntryFault) × (d ≡ of f) × Tells m e (Err f) m'
+
 -- what a keeper has to say to a move, if there is one
 abbrev pub Allows : Meaning → Option Move → Result (Unit {0}) EntryFault → Type 0
 Allows m None r = r ≡ Ok tt

@@ -1,5 +1,7 @@
 // What an event of a contract moves, at both keepers or at neither.
+ghost use Rattle.std.specs.Prelude.{Ok};
 ghost use Rattle.std.specs.Option.{option_map};
+ghost use Rattle.rules.specs.Runs.{Posted};
 ghost use Rattle.settling.specs.Meeting.{entry_of};
 ghost use Rattle.posting.specs.Entered.{Allows, Moved};
 
@@ -18,13 +20,19 @@ pub fn post_moves<M: Keeper, G: Keeper>(
 {
     ask(money, payment).map_err(Refusal::Money)?;
     ask(goods, shipment).map_err(Refusal::Goods)?;
-    if let Some(m) = payment {
-        let _ = money.post(m.into());
-    }
-    if let Some(m) = shipment {
-        let _ = goods.post(m.into());
-    }
+    carry(money, payment);
+    carry(goods, shipment);
     Ok(())
+}
+
+/// Makes a move that the keeper allows, if there is one.
+fn carry<K: Keeper>(keeper: &mut K, entry: Option<Move>)
+    requires { Allows (K.Registers.meaning keeper.old) entry (Ok tt) }
+    ensures { Posted (K.Registers.meaning keeper.old) (option_map entry_of entry) (K.Registers.meaning keeper.new) }
+{
+    if let Some(m) = entry {
+        let _ = keeper.post(m.into());
+    }
 }
 
 /// What a keeper has to say to a move.

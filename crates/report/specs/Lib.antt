@@ -1,3 +1,4 @@
 pub mod Notes
 pub mod Reports
 pub mod Texts
+pub mod LineTexts

@@ -4,7 +4,7 @@ use Rattle.std.specs.List.{flat_map}
 use Rattle.fields.specs.Sheets.{lines_of}
 use Rattle.sheet.specs.declared.outcome.Line.{Line}
 use Rattle.sheet.specs.declared.outcome.Line.TheVariants.{Instrument, Call}
-use Rattle.rules.specs.Law.{RunLaw, Start}
+use Rattle.rules.specs.Law.{Kinds, RunLaw, Start}
 use Rattle.rules.specs.declared.rows.Row.{Row}
 use Rattle.rules.specs.Limits.{Ledger, clearing, free_clearing, free_position, known, position}
 use Rattle.rules.specs.Runs.{Told, Point}
@@ -68,21 +68,21 @@ notes_of bytes = notes_from false (lines_of bytes)
 abbrev pub report_of : List ℕ → List Told → Ledger → List ReportLine
 report_of bytes ts b = lines_report 1 0 (notes_of bytes) ts ++ cond (opened_after false (lines_of bytes)) (members_below b 64) []
 
--- a run of the sheet's rows and calls, from the start that its rows make, that keeps the law of whole runs, reported line by line
-pub record RunReported (from : List Row → Start) (bytes : List ℕ) (report : List ReportLine) : Type 0 where
+-- a run of the sheet's rows and calls over keepers of these kinds, from the start that its rows make, that keeps the law of whole runs, reported line by line
+pub record RunReported (k : Kinds) (from : List Row → Start) (bytes : List ℕ) (report : List ReportLine) : Type 0 where
   pub told : List Told
   pub end : Point
-  pub law : RunLaw (from (flat_map row_in (notes_of bytes))) (flat_map request_in (notes_of bytes)) told end
+  pub law : RunLaw k (from (flat_map row_in (notes_of bytes))) (flat_map request_in (notes_of bytes)) told end
   pub reported : report ≡ report_of bytes told end.ledger
 
 -- a sheet that is too long is refused whole, and no line of it is run
 abbrev pub too_long : List ℕ → Bool
 too_long bytes = nat_lt most_bytes (length bytes)
 
-module _ (from : List Row → Start) (bytes : List ℕ) where
+module _ (k : Kinds) (from : List Row → Start) (bytes : List ℕ) where
   abbrev pub ReportedIf : List ReportLine → Bool → Type 0
   ReportedIf report true = report ≡ Refused 0 (shown faults.LongSheet) ∷ []
-  ReportedIf report false = RunReported from bytes report
+  ReportedIf report false = RunReported k from bytes report
 
   abbrev pub Reported : List ReportLine → Type 0
   Reported report = ReportedIf report (too_long bytes)

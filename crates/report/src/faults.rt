@@ -38,23 +38,20 @@ impl From<RequestFault> for SheetFault {
 }
 
 impl SheetFault {
-    /// What a report shows of the fault.
+    /// What a report shows of the fault, by name and by a match, as of any refusal.
     pub fn shown(self) -> Shown
         ensures { result ≡ shown self }
     {
-        match self {
-            SheetFault::NotRead(fault) => fault.shown(),
-            SheetFault::Misplaced => Shown {
-                layer: Layer::Sheet,
-                number: 55,
-                place: 0,
-            },
-            SheetFault::LongSheet => Shown {
-                layer: Layer::Sheet,
-                number: 56,
-                place: 0,
-            },
-            SheetFault::Refused(refusal) => refusal.shown(),
+        let number = match self {
+            SheetFault::NotRead(fault) => return fault.shown(),
+            SheetFault::Refused(refusal) => return refusal.shown(),
+            SheetFault::Misplaced => 55,
+            SheetFault::LongSheet => 56,
+        };
+        Shown {
+            layer: Layer::Sheet,
+            number,
+            place: 0,
         }
     }
 }

@@ -30,30 +30,6 @@ impl fmt::Display for ReportLine {
     ghost output = { λ l. Some (shown_line l) };
 
     fn fmt<W: fmt::Write>(&self, f: &mut fmt::Formatter<W>) -> fmt::Result {
-        match *self {
-            ReportLine::Accepted {
-                line,
-                first,
-                second,
-            } => write!(f, "{line},A,{first},{second}"),
-            ReportLine::Refused {
-                line,
-                shown: Shown {
-                    layer,
-                    number,
-                    place,
-                },
-            } => write!(f, "{line},R,{layer},{number},{place}"),
-            ReportLine::Member {
-                member,
-                position,
-                clearing,
-                freeposition,
-                freeclearing,
-            } => write!(
-                f,
-                "M,{member},{position},{clearing},{freeposition},{freeclearing}"
-            ),
-        }
+        f.write_str(self.text().as_str())
     }
 }

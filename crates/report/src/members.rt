@@ -70,11 +70,7 @@ pub fn member_lines<M: Keeper, G: Keeper, R: ChargeRule>(
 ) -> Result<Vec<ReportLine>, AllocError>
     ensures { IfOk result (λ lines. lines.items ≡ members_below (ledger ⟦<SectionBook<M, G, R> as Shows>⟧ book.now) 64) }
 {
-    let mut lines = Vec::new(heap);
-    for member in 0..64 {
-        if let Some(line) = member_line(book, member) {
-            lines.push(line)?;
-        }
-    }
-    Ok(lines)
+    (0..64)
+        .filter_map(|member| member_line(book, member))
+        .collect(heap)
 }

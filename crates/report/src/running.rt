@@ -4,7 +4,8 @@ ghost use Rattle.report.specs.Notes.{request_in, shown};
 ghost use Rattle.report.specs.declared.faults.SheetFault.TheVariants.{LongSheet};
 ghost use Rattle.report.specs.declared.lines.ReportLine.TheVariants.{Refused};
 ghost use Rattle.report.specs.Reports.{Reported, answers, becomes, first, left_after, line_of, lines_report};
-ghost use Rattle.rules.specs.Law.{start};
+ghost use Rattle.rules.specs.Law.{kinds};
+ghost use Rattle.book.specs.Houses.{start_of};
 
 use crate::faults::SheetFault;
 use crate::lines::ReportLine;
@@ -57,13 +58,11 @@ fn becomes(
     ensures outcome { result ≡ becomes note.now (first told.old.rest.now) }
     ensures left { told.new.rest.now ≡ left_after note.now told.old.rest.now }
 {
-    match note {
-        Ok(Line::Instrument(_)) => Ok((0, 0)),
-        Ok(Line::Call(_)) => match told.next() {
-            Some(told) => answers(*told),
-            None => Err(SheetFault::Misplaced),
-        },
-        Err(fault) => Err(*fault),
+    match (*note)? {
+        Line::Instrument(_) => Ok((0, 0)),
+        Line::Call(_) => told
+            .next()
+            .map_or(Err(SheetFault::Misplaced), |told| answers(*told)),
     }
 }
 
@@ -90,7 +89,7 @@ pub fn run_sheet<M: Keeper + Drop, G: Keeper + Drop, R: ChargeRule + Drop>(
     sheet: &[u8],
     house: House<M, G, R>,
 ) -> Result<Vec<ReportLine>, AllocError>
-    ensures { IfOk result (λ report. Reported (λ rows. start M.Registers G.Registers R.ChargeRule rows house.money house.goods house.rule) sheet.now report.items) }
+    ensures { IfOk result (λ report. Reported (kinds M.Registers G.Registers) (start_of M.Registers G.Registers R.ChargeRule house) sheet.now report.items) }
 {
     if sheet.len() > MOST_BYTES {
         return refused_whole(heap);

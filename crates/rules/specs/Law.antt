@@ -1,5 +1,6 @@
 -- The law of whole runs. Assumes nothing.
 use Rattle.std.specs.Prelude.{◌≡◌, ℕ, ◌+◌, ◌≤◌, false, List, [], ◌∷◌, ◌++◌, map, pos, ◌≤ℤ◌, ◌<ℤ◌, slice_index}
+use Rattle.std.specs.List.{All}
 use Rattle.keeper.specs.Meaning.{Meaning}
 use Rattle.keeper.specs.declared.keepers.Registers as registers
 use Rattle.charge.specs.declared.ChargeRule as rule
@@ -23,6 +24,14 @@ pub record Start : Type 0 where
 -- the start that is made of rows, two keepers and a rule
 abbrev pub start : {M G R : Type 0} → registers.Ghosts M → registers.Ghosts G → rule.Ghosts R → List Row → M → G → R → Start
 start m g r rows money goods charges = record { rows = rows; top = r.top charges; charge = r.charge charges; money = m.meaning money; goods = g.meaning goods }
+
+-- which meanings a keeper of money and a keeper of goods can have, one beside the other
+abbrev pub Kinds : Type 1
+Kinds = Meaning → Meaning → Type 0
+
+-- those of two types of keepers: what some keeper of each means
+abbrev pub kinds : {M G : Type 0} → registers.Ghosts M → registers.Ghosts G → Kinds
+kinds {M} {G} m g x y = ((k : M) × (m.meaning k ≡ x)) × ((k : G) × (g.meaning k ≡ y))
 
 -- the opening ledger, with the two keepers
 abbrev pub opened : Start → Point
@@ -51,14 +60,16 @@ pub record Stands (o : Start) (calls : List Done) (p : Point) : Type 0 where
 abbrev pub NoWorse : Ledger → Ledger → Type 0
 NoWorse b b' = (m : ℕ) → free_position b' m <ℤ pos 0 → free_position b m ≤ℤ free_position b' m
 
--- what is owed of a run: its start, what was requested and told, and what the book shows at the end
-pub record RunLaw (o : Start) (requests : List Request) (told : List Told) (end : Point) : Type 0 where
+-- what is owed of a run: the kinds of its keepers, its start, what was requested and told, and what the book shows at the end
+pub record RunLaw (k : Kinds) (o : Start) (requests : List Request) (told : List Told) (end : Point) : Type 0 where
   -- the steps are the requests, in sequence, with what was told of each
   pub steps : List Step
   pub asked : map (λ s. s.request) steps ≡ requests
   pub answered : map (λ s. s.told) steps ≡ told
   -- each answer and each reply is the ledger's, fed nothing but the start and, before each request, the keepers' spares and needs
   pub ruled : Run (opened o) steps
+  -- those spares and needs are the keepers' own: after each step the two mean what keepers of their kinds can
+  pub meant : All (λ s. k s.money s.goods) steps
   -- the steps lead to what the book shows
   pub ended : end ≡ reached (opened o) steps
   -- at the start and after each step

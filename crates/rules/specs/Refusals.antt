@@ -1,12 +1,14 @@
 -- The number of each refusal, and what a report shows of it. Assumes nothing.
 use Rattle.std.specs.Prelude.{ℕ, List, codes}
 use Rattle.keeper.specs.Meaning.{number as keeper_number}
+use Rattle.rules.specs.declared.refusals.EntryFault.{EntryFault}
 use Rattle.rules.specs.declared.refusals.Layer.{Layer}
 use Rattle.rules.specs.declared.refusals.Layer.TheVariants as layers
 use Rattle.rules.specs.declared.refusals.Shown.{Shown}
 use Rattle.rules.specs.declared.refusals.Refusal.{Refusal}
 use Rattle.rules.specs.declared.refusals.Refusal.TheVariants.{UnknownMember, NoInstrument, BadValue, FreeLimit, PastDay, OrderNumber, OrdersFull, OrderNotLive, Mismatch, BadLots, ContractNumber, ContractsFull, ContractNotLive, ContractState, WrongDay, Money, Goods}
 
+-- the book's number of each, whichever keeper's fault it carries
 abbrev pub number : Refusal → ℕ
 number UnknownMember = 11
 number NoInstrument = 12
@@ -30,28 +32,15 @@ number (Goods f) = 42
 abbrev pub of_book : ℕ → Shown
 of_book n = record { layer = layers.Book; number = n; place = 0 }
 
+-- an entry that the keeper of a layer refused
+abbrev pub shown_at : Layer → EntryFault → Shown
+shown_at l f = record { layer = l; number = keeper_number f.fault; place = f.register }
+
 -- layer, number and register: of a keeper's refusal the keeper's own number and the register, else the book's number and 0
 abbrev pub shown : Refusal → Shown
-shown UnknownMember = of_book 11
-shown NoInstrument = of_book 12
-shown BadValue = of_book 13
-shown FreeLimit = of_book 15
-shown PastDay = of_book 16
-shown OrderNumber = of_book 21
-shown OrdersFull = of_book 22
-shown OrderNotLive = of_book 23
-shown Mismatch = of_book 24
-shown BadLots = of_book 25
-shown ContractNumber = of_book 26
-shown ContractsFull = of_book 27
-shown ContractNotLive = of_book 31
-shown ContractState = of_book 32
-shown WrongDay = of_book 33
-shown (Money f) = record { layer = layers.Money; number = keeper_number f.fault; place = f.register }
-shown (Goods f) = record { layer = layers.Goods; number = keeper_number f.fault; place = f.register }
-
-abbrev pub layer : Refusal → Layer
-layer e = (shown e).layer
+shown (Money f) = shown_at layers.Money f
+shown (Goods f) = shown_at layers.Goods f
+shown e = of_book (number e)
 
 -- the letter that a report shows of a layer
 abbrev pub letter : Layer → List ℕ

@@ -1,9 +1,8 @@
 // Why a call or a question is refused.
-ghost use Rattle.std.specs.Prelude.{◌≡◌, Some};
-ghost use Rattle.rules.specs.Refusals.{letter, of_book, shown};
+ghost use Rattle.std.specs.Prelude.{◌≡◌, ◌<◌, [], ◌∷◌};
+ghost use Rattle.rules.specs.Refusals.{letter, number, shown, shown_at};
 
 use keeper::KeeperFault;
-use std::fmt;
 
 /// An entry that a keeper refused: its fault, and the receiver, or the giver of a debit.
 #[derive(Clone, Copy)]
@@ -59,16 +58,18 @@ pub enum Layer {
     Goods,
 }
 
-impl fmt::Display for Layer {
-    ghost output = { λ l. Some (letter l) };
-
-    fn fmt<W: fmt::Write>(&self, f: &mut fmt::Formatter<W>) -> fmt::Result {
-        f.write_str(match self {
-            Layer::Sheet => "S",
-            Layer::Book => "B",
-            Layer::Money => "M",
-            Layer::Goods => "G",
-        })
+impl Layer {
+    /// The letter that a report shows of the layer, an ASCII byte.
+    pub fn letter(self) -> u8
+        ensures letter { letter self ≡ result ∷ [] }
+        ensures ascii { result < 128 }
+    {
+        match self {
+            Layer::Sheet => b'S',
+            Layer::Book => b'B',
+            Layer::Money => b'M',
+            Layer::Goods => b'G',
+        }
     }
 }
 
@@ -81,47 +82,58 @@ pub struct Shown {
     pub place: u64,
 }
 
-impl Refusal {
-    /// What a report shows of the refusal. By name and not by From: a fault of any layer is shown so.
-    pub fn shown(self) -> Shown
-        ensures { result ≡ shown self }
+impl EntryFault {
+    /// What a report shows of the fault, of the keeper of this layer.
+    fn shown(self, layer: Layer) -> Shown
+        ensures { result ≡ shown_at layer self }
     {
-        match self {
-            Refusal::UnknownMember => of_book(11),
-            Refusal::NoInstrument => of_book(12),
-            Refusal::BadValue => of_book(13),
-            Refusal::FreeLimit => of_book(15),
-            Refusal::PastDay => of_book(16),
-            Refusal::OrderNumber => of_book(21),
-            Refusal::OrdersFull => of_book(22),
-            Refusal::OrderNotLive => of_book(23),
-            Refusal::Mismatch => of_book(24),
-            Refusal::BadLots => of_book(25),
-            Refusal::ContractNumber => of_book(26),
-            Refusal::ContractsFull => of_book(27),
-            Refusal::ContractNotLive => of_book(31),
-            Refusal::ContractState => of_book(32),
-            Refusal::WrongDay => of_book(33),
-            Refusal::Money(f) => Shown {
-                layer: Layer::Money,
-                number: f.fault.number(),
-                place: f.register as u64,
-            },
-            Refusal::Goods(f) => Shown {
-                layer: Layer::Goods,
-                number: f.fault.number(),
-                place: f.register as u64,
-            },
+        Shown {
+            layer,
+            number: self.fault.number(),
+            place: self.register as u64,
         }
     }
 }
 
-fn of_book(number: u64) -> Shown
-    ensures { result ≡ of_book number }
-{
-    Shown {
-        layer: Layer::Book,
-        number,
-        place: 0,
+impl Refusal {
+    /// The book's number of the refusal. A match, so that each stands beside its cause.
+    pub fn number(self) -> u64
+        ensures { result ≡ number self }
+    {
+        match self {
+            Refusal::UnknownMember => 11,
+            Refusal::NoInstrument => 12,
+            Refusal::BadValue => 13,
+            Refusal::FreeLimit => 15,
+            Refusal::PastDay => 16,
+            Refusal::OrderNumber => 21,
+            Refusal::OrdersFull => 22,
+            Refusal::OrderNotLive => 23,
+            Refusal::Mismatch => 24,
+            Refusal::BadLots => 25,
+            Refusal::ContractNumber => 26,
+            Refusal::ContractsFull => 27,
+            Refusal::ContractNotLive => 31,
+            Refusal::ContractState => 32,
+            Refusal::WrongDay => 33,
+            Refusal::Money(_) => 41,
+            Refusal::Goods(_) => 42,
+        }
+    }
+
+    /// What a report shows of the refusal. By name and not by From: it leaves out what the refusal is, so it is no
+    /// conversion, and faults of every layer are shown so.
+    pub fn shown(self) -> Shown
+        ensures { result ≡ shown self }
+    {
+        match self {
+            Refusal::Money(fault) => fault.shown(Layer::Money),
+            Refusal::Goods(fault) => fault.shown(Layer::Goods),
+            _ => Shown {
+                layer: Layer::Book,
+                number: self.number(),
+                place: 0,
+            },
+        }
     }
 }

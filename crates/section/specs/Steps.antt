@@ -1,11 +1,10 @@
 -- One request to a book in either half of the day. Assumes nothing.
-use Rattle.std.specs.Prelude.{◌≡◌, ℕ, List, map, Ok, Err, Result}
+use Rattle.std.specs.Prelude.{◌≡◌, List, map}
+use Rattle.std.specs.List.{All}
 use Rattle.keeper.specs.declared.keepers.Registers as registers
 use Rattle.charge.specs.declared.rule.ChargeRule as rule
-use Rattle.rules.specs.declared.refusals.Refusal.{Refusal}
 use Rattle.rules.specs.declared.calls.Request.{Request}
-use Rattle.rules.specs.declared.calls.Answer.TheVariants.{Accepted}
-use Rattle.rules.specs.declared.calls.RequestFault.TheVariants.{Refused}
+use Rattle.rules.specs.Law.{Kinds}
 use Rattle.rules.specs.Limits.{session, trading}
 use Rattle.rules.specs.Runs.{Told, Point, Posted, Run, Step, feed, made, next, outcome, reached}
 use Rattle.section.specs.declared.section_book.SectionBook.{SectionBook}
@@ -18,11 +17,6 @@ abbrev pub shows : {M G R : Type 0} → registers.Ghosts M → registers.Ghosts 
 shows m g r (Trading b) = point_of trading m g r b
 shows m g r (Session b) = point_of session m g r b
 
--- what is told of a call that came out so
-abbrev pub told_of : Result (ℕ × ℕ) Refusal → Told
-told_of (Ok v) = Ok (Accepted v.0 v.1)
-told_of (Err e) = Err (Refused e)
-
 -- a request leads from one point to the next as the ledger has it, and each keeper accepts the entry that the ledger makes there, and no other
 pub record Stepped (p : Point) (request : Request) (told : Told) (q : Point) : Type 0 where
   pub tells : told ≡ outcome p.ledger (feed p) request
@@ -34,10 +28,11 @@ pub record Stepped (p : Point) (request : Request) (told : Told) (q : Point) : T
 abbrev pub Steps : {B : Type 0} → book_shows.Ghosts B → B → Request → Told → B → Type 0
 Steps s b request told b' = Stepped (s.point b) request told (s.point b')
 
--- there are steps with these requests, of which these things were told, that lead from one point to another
-pub record Ran (p : Point) (requests : List Request) (told : List Told) (q : Point) : Type 0 where
+-- keepers of these kinds took steps with these requests, of which these things were told, that lead from one point to another
+pub record Ran (k : Kinds) (p : Point) (requests : List Request) (told : List Told) (q : Point) : Type 0 where
   pub steps : List Step
   pub asked : map (λ s. s.request) steps ≡ requests
   pub answered : map (λ s. s.told) steps ≡ told
   pub ruled : Run p steps
+  pub meant : All (λ s. k s.money s.goods) steps
   pub ended : q ≡ reached p steps

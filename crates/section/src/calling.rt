@@ -2,8 +2,9 @@
 ghost use Rattle.std.specs.Prelude.{◌≡◌, ◌≢◌};
 ghost use Rattle.rules.specs.declared.calls.Call.TheVariants.{EndSession, EndTrading};
 ghost use Rattle.rules.specs.declared.calls.Request.TheVariants.{Make};
+ghost use Rattle.rules.specs.Runs.{told_of};
 ghost use Rattle.desk.specs.Called.{alone};
-ghost use Rattle.section.specs.Steps.{Steps, told_of};
+ghost use Rattle.section.specs.Steps.{Steps};
 
 use book::{SessionBook, Shows, TradingBook};
 use charge::ChargeRule;

@@ -1,6 +1,7 @@
 // Whole runs of requests.
 ghost use Rattle.std.specs.Prelude.{◌≡◌, IfOk};
-ghost use Rattle.rules.specs.Law.{RunLaw, start};
+ghost use Rattle.rules.specs.Law.{RunLaw, kinds};
+ghost use Rattle.book.specs.Houses.{start_of};
 
 use crate::section_book::SectionBook;
 use book::{House, Shows, TradingBook};
@@ -18,7 +19,7 @@ pub fn replay<M: Keeper + Drop, G: Keeper + Drop, R: ChargeRule + Drop>(
     house: House<M, G, R>,
     requests: &[Request],
 ) -> Result<(Vec<Told>, SectionBook<M, G, R>), AllocError>
-    ensures { IfOk result (λ p. RunLaw (start M.Registers G.Registers R.ChargeRule rows.now house.money house.goods house.rule) requests.now p.0.items (⟦<SectionBook<M, G, R> as Shows>⟧.point p.1)) }
+    ensures { IfOk result (λ p. RunLaw (kinds M.Registers G.Registers) (start_of M.Registers G.Registers R.ChargeRule house rows.now) requests.now p.0.items (⟦<SectionBook<M, G, R> as Shows>⟧.point p.1)) }
 {
     let mut told = Vec::with_capacity(heap, requests.len())?;
     let mut book = SectionBook::Trading(TradingBook::open(heap, rows, house)?);

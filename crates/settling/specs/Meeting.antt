@@ -1,5 +1,5 @@
 -- What a contract does at an event, in its circumstances. Assumes nothing.
-use Rattle.std.specs.Prelude.{◌≡◌, ℕ, ◌-◌, min, not, ◌&&◌, List, ◌∷◌, None, Ok, Err, Result}
+use Rattle.std.specs.Prelude.{◌≡◌, ℕ, ◌-◌, min, not, ◌&&◌, List, ◌∷◌, ℤ, pos, None, Ok, Err, Result}
 use Rattle.std.specs.Option.{option_map}
 use Rattle.keeper.specs.declared.entries.Entry.{Entry}
 use Rattle.keeper.specs.declared.entries.Entry.TheVariants.{Transfer}
@@ -16,7 +16,10 @@ use Rattle.rules.specs.Rulings.{allowed}
 use Rattle.rules.specs.Settling.{event_answer, event_state}
 use Rattle.settling.specs.declared.moves.Move.{Move}
 use Rattle.settling.specs.declared.moves.Turn.{Turn}
+use Rattle.rules.specs.declared.contracts.Event.TheVariants as events
 use Rattle.settling.specs.declared.meeting.Circumstances.{Circumstances}
+use Rattle.settling.specs.declared.meeting.Occasion.{Occasion}
+use Rattle.settling.specs.declared.meeting.Occasion.TheVariants.{Funding, Delivery, Default}
 use Rattle.settling.specs.Fits.{fit_contract, fit_row}
 
 -- a move as an entry
@@ -31,17 +34,40 @@ pub record Turned (charge : Charge) (r : Row) (amount : ℕ) (k : Contract) (e :
   pub goods : option_map entry_of t.goods ≡ (event_entries charge r amount k e).goods
   pub state : t.state ≡ event_state r k e
 
-abbrev pub Meets : Charge → Circumstances → Contract → Event → Result Turn Refusal → Type 0
-Meets charge at k e (Ok t) = (allowed (event_checks at.row at.day at.free k e) ≡ Ok tt) × Turned charge at.row at.amount k e t
-Meets charge at k e (Err d) = allowed (event_checks at.row at.day at.free k e) ≡ Err d
+-- the event of an occasion, the free clearing limit and the amount that it looks at, if it looks at them
+abbrev pub event_of : Occasion → Event
+event_of (Funding free) = events.Funding
+event_of (Delivery kg) = events.Delivery kg
+event_of (Default amount) = events.Default
+
+abbrev pub free_of : Occasion → ℤ
+free_of (Funding free) = free
+free_of (Delivery kg) = pos 0
+free_of (Default amount) = pos 0
+
+abbrev pub amount_of : Occasion → ℕ
+amount_of (Funding free) = 0
+amount_of (Delivery kg) = 0
+amount_of (Default amount) = amount
+
+-- the checks of an event that comes about so
+abbrev pub occasion_checks : Row → ℕ → Contract → Occasion → List Check
+occasion_checks r day k o = event_checks r day (free_of o) k (event_of o)
+
+abbrev pub TurnedAt : Charge → Row → Contract → Occasion → Turn → Type 0
+TurnedAt charge r k o t = Turned charge r (amount_of o) k (event_of o) t
+
+abbrev pub Meets : Charge → Circumstances → Contract → Occasion → Result Turn Refusal → Type 0
+Meets charge at k o (Ok t) = (allowed (occasion_checks at.row at.day k o) ≡ Ok tt) × TurnedAt charge at.row k o t
+Meets charge at k o (Err d) = allowed (occasion_checks at.row at.day k o) ≡ Err d
 
 -- the same of any contract and row: what is outside its limits is refused first
-abbrev pub limit_checks : Circumstances → Contract → Event → List Check
-limit_checks at k e = (not (fit_contract k && fit_row at.row), BadValue) ∷ event_checks at.row at.day at.free k e
+abbrev pub limit_checks : Circumstances → Contract → Occasion → List Check
+limit_checks at k o = (not (fit_contract k && fit_row at.row), BadValue) ∷ occasion_checks at.row at.day k o
 
-abbrev pub MeetsAny : Charge → Circumstances → Contract → Event → Result Turn Refusal → Type 0
-MeetsAny charge at k e (Ok t) = (allowed (limit_checks at k e) ≡ Ok tt) × Turned charge at.row at.amount k e t
-MeetsAny charge at k e (Err d) = allowed (limit_checks at k e) ≡ Err d
+abbrev pub MeetsAny : Charge → Circumstances → Contract → Occasion → Result Turn Refusal → Type 0
+MeetsAny charge at k o (Ok t) = (allowed (limit_checks at k o) ≡ Ok tt) × TurnedAt charge at.row k o t
+MeetsAny charge at k o (Err d) = allowed (limit_checks at k o) ≡ Err d
 
 -- a turn that ends a contract with a penalty
 pub record Failed (k : Contract) (penalty amount failing injured : ℕ) (t : Turn) : Type 0 where

@@ -1,7 +1,8 @@
 // What a contract holds of its parties' money. Its row comes beside it: only who keeps the rows can find it.
 ghost use Rattle.std.specs.Prelude.{◌≡◌, ◌≤◌, true};
+ghost use Rattle.charge.specs.Charges.{highest};
 ghost use Rattle.rules.specs.Holds.{buyer_charge, due, seller_charge, value};
-ghost use Rattle.settling.specs.Fits.{fit_contract};
+ghost use Rattle.settling.specs.Fits.{dearest, fit_contract};
 
 use charge::ChargeRule;
 use rules::contracts::{Contract, State};
@@ -10,7 +11,7 @@ use rules::rows::{Kind, Row};
 /// Until a contract is funded, the buyer's charge at his order's price.
 pub fn buyer_charge<R: ChargeRule>(rule: &R, row: &Row, contract: &Contract) -> u64
     ensures value { result ≡ buyer_charge (R.ChargeRule.charge rule.now) row.now contract.now }
-    ensures bound { result ≤ 100000000000000 }
+    ensures bound { result ≤ highest }
 {
     match contract.state {
         State::Unfunded => rule.charge(row.rate, contract.bid, contract.trade.lots),
@@ -21,7 +22,7 @@ pub fn buyer_charge<R: ChargeRule>(rule: &R, row: &Row, contract: &Contract) -> 
 /// If the seller ships, his charge at his order's price.
 pub fn seller_charge<R: ChargeRule>(rule: &R, row: &Row, contract: &Contract) -> u64
     ensures value { result ≡ seller_charge (R.ChargeRule.charge rule.now) row.now contract.now }
-    ensures bound { result ≤ 100000000000000 }
+    ensures bound { result ≤ highest }
 {
     match row.kind {
         Kind::Warehouse => 0,
@@ -32,7 +33,7 @@ pub fn seller_charge<R: ChargeRule>(rule: &R, row: &Row, contract: &Contract) ->
 /// What a whole contract costs.
 pub(crate) fn value(contract: &Contract) -> u128
     ensures value { result ≡ value contract.now }
-    ensures bound { fit_contract contract.now ≡ true → result ≤ 10000000000000 }
+    ensures bound { fit_contract contract.now ≡ true → result ≤ dearest }
 {
     u128::from(contract.trade.price) * u128::from(contract.trade.lots)
 }
@@ -40,7 +41,7 @@ pub(crate) fn value(contract: &Contract) -> u128
 /// Once a contract is funded, what is not yet paid.
 pub fn due(contract: &Contract) -> u128
     ensures value { result ≡ due contract.now }
-    ensures bound { fit_contract contract.now ≡ true → result ≤ 100000000000000 }
+    ensures bound { fit_contract contract.now ≡ true → result ≤ dearest }
 {
     match contract.state {
         State::Unfunded => 0,

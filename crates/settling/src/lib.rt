@@ -9,7 +9,7 @@ mod registers;
 mod weights;
 
 pub use charges::{buyer_charge, due, seller_charge};
-pub use meeting::{Circumstances, meet};
+pub use meeting::{Circumstances, Occasion, meet};
 pub use moves::{Move, Turn};
 pub use registers::{goods_register, money_register};
 pub use weights::kilograms_held;

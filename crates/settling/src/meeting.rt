@@ -3,11 +3,11 @@ ghost use Rattle.std.specs.Prelude.{◌≡◌, ◌-◌, ◌≤◌, true};
 ghost use Rattle.std.specs.Option.{option_map};
 ghost use Rattle.rules.specs.Entries.{transfer};
 ghost use Rattle.rules.specs.Holds.{delivered, full_weight, is_funded, payment_to_date, value};
-ghost use Rattle.rules.specs.Terms.{clearing_register, goods_register, warehoused};
-ghost use Rattle.rules.specs.declared.contracts.Event.TheVariants.{Default, Delivery, Funding};
+ghost use Rattle.rules.specs.Terms.{clearing_register, good_report, goods_register, money_register, warehoused};
 ghost use Rattle.rules.specs.declared.contracts.State.TheVariants.{Funded, Unfunded};
-ghost use Rattle.settling.specs.Fits.{fit_contract, fit_row};
+ghost use Rattle.settling.specs.Fits.{dearest, fit_contract, fit_row, heaviest};
 ghost use Rattle.settling.specs.Meeting.{Failed, Meets, MeetsAny, entry_of};
+ghost use Rattle.settling.specs.declared.meeting.Occasion.TheVariants.{Default, Delivery, Funding};
 
 use crate::charges::{buyer_charge, seller_charge, value};
 use crate::limits::{fits, fits_row};
@@ -16,18 +16,27 @@ use crate::registers::{goods_register, money_register};
 use crate::weights::kilograms_open;
 use charge::ChargeRule;
 use rules::calls::Account;
-use rules::contracts::{Contract, Event, State};
+use rules::contracts::{Contract, State};
 use rules::refusals::Refusal;
 use rules::rows::{Kind, Row};
 
-/// What an event meets besides the contract itself: the row in force, the day, the buyer's free clearing limit,
-/// and the amount in the position register of the side that would fail.
+/// The most kilograms that are reported at once.
+const MOST_REPORTED: u64 = 1_000_000_000;
+
+/// An event with what it looks at of its parties' money: a funding at the buyer's free clearing limit, a default at
+/// the amount in the position register of the side that fails.
+#[derive(Clone, Copy)]
+pub enum Occasion {
+    Funding { free: i64 },
+    Delivery { kilograms: u64 },
+    Default { amount: u64 },
+}
+
+/// What an event meets besides: the row in force, and the day.
 #[derive(Clone, Copy)]
 pub struct Circumstances {
     pub row: Row,
     pub day: u64,
-    pub free: i64,
-    pub amount: u64,
 }
 
 /// What an event of a contract comes to, or why it is refused. A contract or a row that no desk can have is refused
@@ -36,15 +45,15 @@ pub fn meet<R: ChargeRule>(
     contract: &Contract,
     rule: &R,
     at: &Circumstances,
-    event: Event,
+    occasion: Occasion,
 ) -> Result<Turn, Refusal>
-    ensures any { MeetsAny (R.ChargeRule.charge rule.now) at.now contract.now event result }
-    ensures fitting { fit_contract contract.now ≡ true → fit_row at.now.row ≡ true → Meets (R.ChargeRule.charge rule.now) at.now contract.now event result }
+    ensures any { MeetsAny (R.ChargeRule.charge rule.now) at.now contract.now occasion result }
+    ensures fitting { fit_contract contract.now ≡ true → fit_row at.now.row ≡ true → Meets (R.ChargeRule.charge rule.now) at.now contract.now occasion result }
 {
     if !fits(contract) || !fits_row(&at.row) {
         return Err(Refusal::BadValue);
     }
-    Meeting { contract, at }.turn(rule, event)
+    Meeting { contract, at }.turn(rule, occasion)
 }
 
 /// A contract and its circumstances, both within what a desk can have.
@@ -58,37 +67,39 @@ struct Meeting<'a> {
 
 impl Meeting<'_> {
     /// What a contract does depends on its state and the event together.
-    fn turn<R: ChargeRule>(&self, rule: &R, event: Event) -> Result<Turn, Refusal>
-        ensures { Meets (R.ChargeRule.charge rule.now) self.now.at.now self.now.contract.now event result }
+    fn turn<R: ChargeRule>(&self, rule: &R, occasion: Occasion) -> Result<Turn, Refusal>
+        ensures { Meets (R.ChargeRule.charge rule.now) self.now.at.now self.now.contract.now occasion result }
     {
-        match (self.contract.state, event) {
-            (State::Unfunded, Event::Funding) => self.funded(),
-            (State::Unfunded, Event::Delivery { .. }) => Err(Refusal::ContractState),
-            (State::Unfunded, Event::Default) => self.buyer_failed(rule),
-            (State::Funded { .. }, Event::Funding) => Err(Refusal::ContractState),
+        match (self.contract.state, occasion) {
+            (State::Unfunded, Occasion::Funding { free }) => self.funded(free),
+            (State::Unfunded, Occasion::Delivery { .. }) => Err(Refusal::ContractState),
+            (State::Unfunded, Occasion::Default { amount }) => self.buyer_failed(rule, amount),
+            (State::Funded { .. }, Occasion::Funding { .. }) => Err(Refusal::ContractState),
             (
                 State::Funded {
                     kilograms,
                     payments,
                 },
-                Event::Delivery {
+                Occasion::Delivery {
                     kilograms: reported,
                 },
             ) => self.delivered(kilograms, payments, reported),
-            (State::Funded { .. }, Event::Default) => self.seller_failed(rule),
+            (State::Funded { .. }, Occasion::Default { amount }) => {
+                self.seller_failed(rule, amount)
+            }
         }
     }
 
     /// A contract is funded: the whole of its value is due.
-    fn funded(&self) -> Result<Turn, Refusal>
+    fn funded(&self, free: i64) -> Result<Turn, Refusal>
         requires { self.now.contract.now.state ≡ Unfunded }
-        ensures { Meets (λ _ _ _. 0) self.now.at.now self.now.contract.now Funding result }
+        ensures { Meets (λ _ _ _. 0) self.now.at.now self.now.contract.now (Funding free) result }
     {
         if self.at.day > self.contract.funding {
             return Err(Refusal::WrongDay);
         }
         let due = self.value();
-        if self.at.free < due as i64 {
+        if free < due as i64 {
             return Err(Refusal::FreeLimit);
         }
         Ok(Turn {
@@ -110,7 +121,7 @@ impl Meeting<'_> {
         requires { self.now.contract.now.state ≡ Funded kilograms payments }
         ensures { Meets (λ _ _ _. 0) self.now.at.now self.now.contract.now (Delivery reported) result }
     {
-        if reported == 0 || reported > 1_000_000_000 {
+        if !is_report(reported) {
             return Err(Refusal::BadValue);
         }
         let stored = self.is_stored();
@@ -140,21 +151,21 @@ impl Meeting<'_> {
     }
 
     /// A contract that the buyer did not fund ends after its last day of funding.
-    fn buyer_failed<R: ChargeRule>(&self, rule: &R) -> Result<Turn, Refusal>
+    fn buyer_failed<R: ChargeRule>(&self, rule: &R, amount: u64) -> Result<Turn, Refusal>
         requires { self.now.contract.now.state ≡ Unfunded }
-        ensures { Meets (R.ChargeRule.charge rule.now) self.now.at.now self.now.contract.now Default result }
+        ensures { Meets (R.ChargeRule.charge rule.now) self.now.at.now self.now.contract.now (Default amount) result }
     {
         if self.at.day <= self.contract.funding {
             return Err(Refusal::WrongDay);
         }
         let penalty = buyer_charge(rule, &self.at.row, self.contract);
-        Ok(self.failed(penalty, self.contract.buyer, self.contract.seller))
+        Ok(self.failed(penalty, amount, self.contract.buyer, self.contract.seller))
     }
 
     /// A contract that the seller was to ship ends five days after its delivery.
-    fn seller_failed<R: ChargeRule>(&self, rule: &R) -> Result<Turn, Refusal>
+    fn seller_failed<R: ChargeRule>(&self, rule: &R, amount: u64) -> Result<Turn, Refusal>
         requires { is_funded self.now.contract.now.state ≡ true }
-        ensures { Meets (R.ChargeRule.charge rule.now) self.now.at.now self.now.contract.now Default result }
+        ensures { Meets (R.ChargeRule.charge rule.now) self.now.at.now self.now.contract.now (Default amount) result }
     {
         if self.is_stored() {
             return Err(Refusal::ContractState);
@@ -163,25 +174,23 @@ impl Meeting<'_> {
             return Err(Refusal::WrongDay);
         }
         let penalty = seller_charge(rule, &self.at.row, self.contract);
-        Ok(self.failed(penalty, self.contract.seller, self.contract.buyer))
+        Ok(self.failed(penalty, amount, self.contract.seller, self.contract.buyer))
     }
 
     /// The turn of a contract that ends with a penalty, paid between the position registers as far as the amount of
     /// the failing side goes.
-    fn failed(&self, penalty: u64, failing: u64, injured: u64) -> Turn
+    fn failed(&self, penalty: u64, amount: u64, failing: u64, injured: u64) -> Turn
         requires failing { failing ≤ 63 }
         requires injured { injured ≤ 63 }
-        ensures { Failed self.now.contract.now penalty self.now.at.now.amount failing injured result }
+        ensures { Failed self.now.contract.now penalty amount failing injured result }
     {
-        let paid = penalty.min(self.at.amount);
-        let giver = money_register(failing, Account::Position);
-        let receiver = money_register(injured, Account::Position);
+        let paid = penalty.min(amount);
         Turn {
             number: self.contract.trade.contract,
             state: None,
             first: paid,
             second: penalty - paid,
-            money: moved(giver, receiver, paid),
+            money: paid_from(Account::Position, failing, injured, paid),
             goods: None,
         }
     }
@@ -189,7 +198,7 @@ impl Meeting<'_> {
     /// What the whole contract costs.
     fn value(&self) -> u64
         ensures value { result ≡ value self.now.contract.now }
-        ensures bound { result ≤ 10000000000000 }
+        ensures bound { result ≤ dearest }
     {
         value(self.contract) as u64
     }
@@ -197,7 +206,7 @@ impl Meeting<'_> {
     /// The kilograms that are not yet delivered.
     fn open(&self) -> u64
         ensures value { result ≡ full_weight self.now.at.now.row self.now.contract.now.trade.lots - delivered self.now.contract.now.state }
-        ensures bound { result ≤ 1000000000 }
+        ensures bound { result ≤ heaviest }
     {
         kilograms_open(&self.at.row, self.contract) as u64
     }
@@ -205,7 +214,7 @@ impl Meeting<'_> {
     /// What kilograms cost at the price for a lot, rounded down.
     #[tactic(auto, unfolding(rules::specs::Holds::payment_to_date))]
     fn payment_to_date(&self, kilograms: u64) -> u64
-        requires { kilograms ≤ 1000000000 }
+        requires { kilograms ≤ heaviest }
         ensures { result ≡ payment_to_date self.now.at.now.row self.now.contract.now.trade.price kilograms }
     {
         (self.contract.trade.price * kilograms)
@@ -224,9 +233,12 @@ impl Meeting<'_> {
     fn payment_move(&self, payment: u64) -> Option<Move>
         ensures { option_map entry_of result ≡ transfer (clearing_register self.now.contract.now.buyer) (clearing_register self.now.contract.now.seller) payment }
     {
-        let giver = money_register(self.contract.buyer, Account::Clearing);
-        let receiver = money_register(self.contract.seller, Account::Clearing);
-        moved(giver, receiver, payment)
+        paid_from(
+            Account::Clearing,
+            self.contract.buyer,
+            self.contract.seller,
+            payment,
+        )
     }
 
     /// Goods in a warehouse go from the seller's register to the buyer's.
@@ -237,6 +249,26 @@ impl Meeting<'_> {
         let receiver = goods_register(self.contract.buyer, self.contract.instrument);
         moved(giver, receiver, kilograms)
     }
+}
+
+/// Kilograms that can be reported at once.
+fn is_report(kilograms: u64) -> bool
+    ensures { result ≡ good_report kilograms }
+{
+    (1..=MOST_REPORTED).contains(&kilograms)
+}
+
+/// Money goes from one member to another, between registers of one account.
+fn paid_from(account: Account, giver: u64, receiver: u64, amount: u64) -> Option<Move>
+    requires giver { giver ≤ 63 }
+    requires receiver { receiver ≤ 63 }
+    ensures { option_map entry_of result ≡ transfer (money_register giver account) (money_register receiver account) amount }
+{
+    moved(
+        money_register(giver, account),
+        money_register(receiver, account),
+        amount,
+    )
 }
 
 /// A move of an amount; a sum of 0 makes none.

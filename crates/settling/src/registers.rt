@@ -4,7 +4,8 @@ ghost use Rattle.rules.specs.Terms.{goods_register, money_register};
 
 use rules::calls::Account;
 
-/// The register of money for an account of a member; a number that is too great gives the greatest.
+/// The register of money for an account of a member. A number that is too great gives the greatest, which no keeper
+/// has: so it cannot fail, and a keeper refuses it.
 pub fn money_register(member: u64, account: Account) -> usize
     ensures known { member ≤ 63 → result ≡ money_register member account }
     ensures capped { result ≡ min (money_register member account) 18446744073709551615 }

@@ -1,7 +1,7 @@
 // Kilograms of a contract.
 ghost use Rattle.std.specs.Prelude.{◌≡◌, ◌-◌, ◌≤◌, true};
 ghost use Rattle.rules.specs.Holds.{delivered, full_weight, kilograms_held};
-ghost use Rattle.settling.specs.Fits.{fit_contract, fit_row};
+ghost use Rattle.settling.specs.Fits.{fit_contract, fit_row, heaviest};
 
 use rules::contracts::{Contract, State};
 use rules::rows::{Kind, Row};
@@ -19,7 +19,7 @@ pub(crate) fn delivered(contract: &Contract) -> u64
 /// The kilograms of a contract that are not yet delivered.
 pub(crate) fn kilograms_open(row: &Row, contract: &Contract) -> u128
     ensures value { result ≡ full_weight row.now contract.now.trade.lots - delivered contract.now.state }
-    ensures bound { fit_row row.now ≡ true → fit_contract contract.now ≡ true → result ≤ 1000000000 }
+    ensures bound { fit_row row.now ≡ true → fit_contract contract.now ≡ true → result ≤ heaviest }
 {
     let full = u128::from(contract.trade.lots) * u128::from(row.weight);
     full.saturating_sub(u128::from(delivered(contract)))
@@ -28,7 +28,7 @@ pub(crate) fn kilograms_open(row: &Row, contract: &Contract) -> u128
 /// The goods that a contract holds: in a warehouse, the kilograms not delivered.
 pub fn kilograms_held(row: &Row, contract: &Contract) -> u128
     ensures value { result ≡ kilograms_held row.now contract.now }
-    ensures bound { fit_row row.now ≡ true → fit_contract contract.now ≡ true → result ≤ 1000000000 }
+    ensures bound { fit_row row.now ≡ true → fit_contract contract.now ≡ true → result ≤ heaviest }
 {
     match row.kind {
         Kind::Warehouse => kilograms_open(row, contract),

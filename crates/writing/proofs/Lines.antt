@@ -1,10 +1,10 @@
 -- A report, one line and one member on.
-use Rattle.std.proofs.Common.{◌≡◌, ℕ, suc, ◌+◌, ◌≤◌, Bool, true, false, cond, List, [], ◌∷◌, ◌++◌, length, get_or, Some, None, Ok, Err, Result, sym, refl, ap, ◌∙◌, subst, ap₂, subst₂, add-one, arith}
+use Rattle.std.proofs.Common.{◌≡◌, ℕ, suc, ◌+◌, ◌≤◌, List, [], ◌∷◌, ◌++◌, length, get_or, Ok, Err, Result, sym, refl, ap, ◌∙◌, subst, ap₂, subst₂, arith}
 use Rattle.std.specs.List.{flat_map}
 use Rattle.std.proofs.lemmas.List.{append-nil, append_assoc, get_or_append_left, get_or_push, flat_map_more, length-append}
 use Rattle.sheet.specs.declared.outcome.Line.{Line}
 use Rattle.sheet.specs.declared.outcome.Line.TheVariants.{Instrument, Call}
-use Rattle.rules.specs.Limits.{Ledger}
+use Rattle.rules.specs.Law.{Kinds}
 use Rattle.rules.specs.Runs.{Told, Point}
 use Rattle.rules.specs.declared.calls.Request.TheVariants.{Make}
 use Rattle.rules.specs.declared.calls.RequestFault.TheVariants.{Misplaced}
@@ -15,7 +15,7 @@ use Rattle.writing.specs.Writings.{Adds}
 use Rattle.report.specs.declared.lines.ReportLine.{ReportLine}
 use Rattle.report.specs.declared.faults.SheetFault.{SheetFault}
 use Rattle.report.specs.Notes.{request_in}
-use Rattle.report.specs.Reports.{answers, becomes, is_listed, line_of, lines_report, member_of, members_below}
+use Rattle.report.specs.Reports.{answers, becomes, line_of, lines_report}
 use Rattle.writing.specs.Writings.{LineRun}
 
 abbrev pub Note : Type 0
@@ -42,33 +42,34 @@ lines_more m k (x ∷ notes) n told later h =
     ∙ ap (λ i. lines_report (m + 1) (k + length (request_in x)) notes told ++ line_of i (becomes n (get_or (told ++ later) (length told) (Err Misplaced))) ∷ []) line)
 
 -- one note on: what is told by then, and the report of it
-pub record Noted (p : Point) (notes : List Note) (told : List Told) (n : Note) (o : Result (ℕ × ℕ) SheetFault) (q : Point) : Type 0 where
+pub record Noted (k : Kinds) (p : Point) (notes : List Note) (told : List Told) (n : Note) (o : Result (ℕ × ℕ) SheetFault) (q : Point) : Type 0 where
   pub told' : List Told
-  pub ran : Ran p (flat_map request_in (notes ++ n ∷ [])) told' q
+  pub ran : Ran k p (flat_map request_in (notes ++ n ∷ [])) told' q
   pub reported : lines_report 1 0 (notes ++ n ∷ []) told' ≡ lines_report 1 0 notes told ++ line_of (1 + length notes) o ∷ []
 
-module _ (p q q' : Point) (notes : List Note) (told : List Told) (o : Result (ℕ × ℕ) SheetFault) (ran : Ran p (flat_map request_in notes) told q) where
+module _ (k : Kinds) (p q q' : Point) (notes : List Note) (told : List Told) (o : Result (ℕ × ℕ) SheetFault) (ran : Ran k p (flat_map request_in notes) told q) where
   told_long : 0 + length (flat_map request_in notes) ≡ length told
-  told_long = let h = ran_length p (flat_map request_in notes) told q ran in omega arith
+  told_long = let h = ran_length k p (flat_map request_in notes) told q ran in omega arith
 
   -- a line that makes no call
-  quiet : (n : Note) → request_in n ≡ [] → ((t : Told) → becomes n t ≡ o) → q' ≡ q → Noted p notes told n o q'
+  quiet : (n : Note) → request_in n ≡ [] → ((t : Told) → becomes n t ≡ o) → q' ≡ q → Noted k p notes told n o q'
   quiet n none is same =
       let asked : flat_map request_in notes ≡ flat_map request_in (notes ++ n ∷ []) = sym (append-nil (flat_map request_in notes)) ∙ ap (λ rs. flat_map request_in notes ++ rs) (sym none) ∙ flat_map_more request_in [] notes n in
       record {
         told' = told ++ [];
-        ran = subst (λ x. Ran p (flat_map request_in (notes ++ n ∷ [])) (told ++ []) x) (sym same) (subst₂ (λ rs ts. Ran p rs ts q) asked (sym (append-nil told)) ran);
+        ran = subst (λ x. Ran k p (flat_map request_in (notes ++ n ∷ [])) (told ++ []) x) (sym same) (subst₂ (λ rs ts. Ran k p rs ts q) asked (sym (append-nil told)) ran);
         reported = lines_more 1 0 notes n told [] told_long ∙ ap (λ x. lines_report 1 0 notes told ++ line_of (1 + length notes) x ∷ []) (is (get_or (told ++ []) (length told) (Err Misplaced)));
       }
 
-  pub noted : (n : Note) → LineRun q n o q' → Noted p notes told n o q'
-  noted (Ok (Instrument r)) run = quiet (Ok (Instrument r)) refl (λ t. sym run.0) run.1
-  noted (Err f) run = quiet (Err f) refl (λ t. sym run.0) run.1
-  noted (Ok (Call c)) run =
+  -- any line; the keepers mean after it what keepers of their kinds can
+  pub noted : (n : Note) → LineRun q n o q' → k q'.money q'.goods → Noted k p notes told n o q'
+  noted (Ok (Instrument r)) run means = quiet (Ok (Instrument r)) refl (λ t. sym run.0) run.1
+  noted (Err f) run means = quiet (Err f) refl (λ t. sym run.0) run.1
+  noted (Ok (Call c)) run means =
       let t = run.0 in
       record {
         told' = told ++ t ∷ [];
-        ran = subst (λ rs. Ran p rs (told ++ t ∷ []) q') (flat_map_more request_in [] notes (Ok (Call c))) (ran_more p (flat_map request_in notes) told q ran (Make c) t q' run.2);
+        ran = subst (λ rs. Ran k p rs (told ++ t ∷ []) q') (flat_map_more request_in [] notes (Ok (Call c))) (ran_more k p (flat_map request_in notes) told q ran (Make c) t q' run.2 means);
         reported = lines_more 1 0 notes (Ok (Call c)) told (t ∷ []) told_long
             ∙ ap (λ x. lines_report 1 0 notes told ++ line_of (1 + length notes) x ∷ []) (ap answers (get_or_push told t (Err Misplaced) (length told) refl) ∙ sym run.1);
       }

@@ -1,15 +1,14 @@
 -- The notes of a sheet, one line on.
-use Rattle.std.proofs.Common.{◌≡◌, ℕ, suc, ◌+◌, ◌<◌, ◌≤◌, Bool, true, false, cond, List, [], ◌∷◌, ◌++◌, length, Ok, Err, Result, sym, refl, ap, ◌∙◌, subst, ap₂, arith}
+use Rattle.std.proofs.Common.{◌≡◌, ℕ, ◌+◌, ◌<◌, ◌≤◌, Bool, true, false, cond, List, [], ◌∷◌, ◌++◌, length, Ok, Err, Result, sym, refl, ap, ◌∙◌, subst, ap₂, arith}
 use Rattle.std.specs.List.{flat_map}
-use Rattle.std.proofs.lemmas.List.{append_assoc, append-nil, length-append, length_push}
+use Rattle.std.proofs.lemmas.List.{append_assoc, append-nil, length_push}
 use Rattle.std.proofs.lemmas.Bool.{le-ltb, lt-ltb}
 use Rattle.fields.specs.declared.LineFault.{LineFault}
 use Rattle.fields.specs.Sheets.{lines_of}
-use Rattle.fields.proofs.LineEnds.{lines_few}
 use Rattle.sheet.specs.declared.outcome.Line.{Line}
 use Rattle.sheet.specs.declared.outcome.Line.TheVariants.{Instrument, Call}
 use Rattle.sheet.specs.Lines.{read_line}
-use Rattle.rules.specs.Law.{Start, opened}
+use Rattle.rules.specs.Law.{Kinds, Start, opened}
 use Rattle.rules.specs.Limits.{Ledger}
 use Rattle.rules.specs.Runs.{Told, Point}
 use Rattle.rules.specs.declared.rows.Row.{Row}
@@ -27,10 +26,6 @@ use Rattle.report.specs.Reports.{line_of, lines_report, members_below, notes_of,
 use Rattle.report.specs.Reports.{ReportedIf, ReportedText}
 use Rattle.writing.specs.Writings.{LineRun, LinesRun}
 use Rattle.writing.proofs.Lines.{Note, Noted, more, noted, text_more}
-
-notes_long : (o : Bool) (lines : List (List ℕ)) → length (notes_from o lines) ≡ length lines
-notes_long o [] = refl
-notes_long o (x ∷ lines) = ap suc (notes_long (opens o x) lines)
 
 -- ---- rows
 
@@ -55,51 +50,39 @@ module _ (x : List ℕ) (left after : List (List ℕ)) (next : left ≡ x ∷ af
       ∙ ap (λ ls. rows ++ flat_map row_in (notes_from false ls)) (sym next)
       ∙ inv
 
-  pub rows_more : opens false x ≡ false → rows' ++ flat_map row_in (notes_from false after) ≡ all
-  rows_more shut = ap (λ o. rows' ++ flat_map row_in (notes_from o after)) (sym shut) ∙ row_next
-
   pub rows_done : opens false x ≡ true → rows' ≡ all
   rows_done last =
       sym (append-nil rows') ∙ ap (λ rs. rows' ++ rs) (sym (none_late after)) ∙ ap (λ o. rows' ++ flat_map row_in (notes_from o after)) (sym last) ∙ row_next
 
-pub rows_end : (left : List (List ℕ)) (all rows : List Row) → left ≡ [] → rows ++ flat_map row_in (notes_from false left) ≡ all → rows ≡ all
-rows_end left all rows e inv = sym (append-nil rows) ∙ ap (λ ls. rows ++ flat_map row_in (notes_from false ls)) (sym e) ∙ inv
-
 -- ---- the run of the lines
 
 -- the notes so far, what was told of their calls, and the text of their report
-pub record Sofar (p : Point) (bytes before : List ℕ) (opened : Bool) (left : List (List ℕ)) (number : ℕ) (text : List ℕ) (q : Point) : Type 0 where
+pub record Sofar (k : Kinds) (p : Point) (bytes before : List ℕ) (opened : Bool) (left : List (List ℕ)) (number : ℕ) (text : List ℕ) (q : Point) : Type 0 where
   pub notes : List Note
   pub told : List Told
   pub all : notes ++ notes_from opened left ≡ notes_of bytes
-  pub ran : Ran p (flat_map request_in notes) told q
+  pub ran : Ran k p (flat_map request_in notes) told q
   pub counted : length notes ≡ number
   pub written : Adds before (report_text (lines_report 1 0 notes told)) text
   pub ahead : opened_after opened left ≡ opened_after false (lines_of bytes)
 
-pub sofar_none : (p : Point) (bytes before : List ℕ) (left : List (List ℕ)) (number : ℕ) → left ≡ lines_of bytes → number ≡ 0 → Sofar p bytes before false left number before p
-sofar_none p bytes before left number all none = record {
+pub sofar_none : (k : Kinds) (p : Point) (bytes before : List ℕ) (left : List (List ℕ)) (number : ℕ) → left ≡ lines_of bytes → number ≡ 0 → Sofar k p bytes before false left number before p
+sofar_none k p bytes before left number all none = record {
   notes = [];
   told = [];
   all = ap (notes_from false) all;
-  ran = ran_none p p [] refl refl;
+  ran = ran_none k p p [] refl refl;
   counted = sym none;
   written = record { all = sym (append-nil before) };
   ahead = ap (opened_after false) all;
 }
 
-module _ (p : Point) (bytes before : List ℕ) (opened : Bool) (left : List (List ℕ)) (number : ℕ) (text : List ℕ) (q : Point) (so : Sofar p bytes before opened left number text q) where
-  -- the number of a line is small
-  pub number_few : number ≤ length bytes + 1
-  number_few =
-      let parts = length-append so.notes (notes_from opened left) in
-      omega (arith, so.counted, parts, ap length so.all, notes_long false (lines_of bytes), lines_few bytes)
-
+module _ (k : Kinds) (p : Point) (bytes before : List ℕ) (opened : Bool) (left : List (List ℕ)) (number : ℕ) (text : List ℕ) (q : Point) (so : Sofar k p bytes before opened left number text q) where
   -- x is the next line
-  pub sofar_more : (x : List ℕ) (after : List (List ℕ)) → left ≡ x ∷ after → (n : Note) → n ≡ timely opened (read_line x) → (o : Result (ℕ × ℕ) SheetFault) (q' : Point) → LineRun q n o q'
-      → (i : ℕ) → i ≡ number → (text' : List ℕ) → Adds text (line_text (line_of (i + 1) o)) text' → (opened' : Bool) → opened' ≡ opens opened x → (number' : ℕ) → number' ≡ number + 1 → Sofar p bytes before opened' after number' text' q'
-  sofar_more x after next n is o q' run i at text' adds opened' moves number' step =
-      let on : Noted p so.notes so.told n o q' = noted p q q' so.notes so.told o so.ran n run in
+  pub sofar_more : (x : List ℕ) (after : List (List ℕ)) → left ≡ x ∷ after → (n : Note) → n ≡ timely opened (read_line x) → (o : Result (ℕ × ℕ) SheetFault) (q' : Point) → LineRun q n o q' → k q'.money q'.goods
+      → (i : ℕ) → i ≡ number → (text' : List ℕ) → Adds text (line_text (line_of (i + 1) o)) text' → (opened' : Bool) → opened' ≡ opens opened x → (number' : ℕ) → number' ≡ number + 1 → Sofar k p bytes before opened' after number' text' q'
+  sofar_more x after next n is o q' run means i at text' adds opened' moves number' step =
+      let on : Noted k p so.notes so.told n o q' = noted k p q q' so.notes so.told o so.ran n run means in
       let line : i + 1 ≡ 1 + length so.notes = omega (arith, at, so.counted) in
       let l = line_of (1 + length so.notes) o in
       record {
@@ -110,23 +93,10 @@ module _ (p : Point) (bytes before : List ℕ) (opened : Bool) (left : List (Lis
             ∙ ap (λ ls. so.notes ++ notes_from opened ls) (sym next)
             ∙ so.all;
         ran = on.ran;
-        counted = length_push so.notes n ∙ ap (λ k. k + 1) so.counted ∙ sym step;
-        written = subst (λ ls. Adds before (report_text ls) text') (sym on.reported) (text_more (lines_report 1 0 so.notes so.told) l so.written (subst (λ k. Adds text (line_text (line_of k o)) text') line adds));
+        counted = length_push so.notes n ∙ ap (λ m. m + 1) so.counted ∙ sym step;
+        written = subst (λ ls. Adds before (report_text ls) text') (sym on.reported) (text_more (lines_report 1 0 so.notes so.told) l so.written (subst (λ m. Adds text (line_text (line_of m o)) text') line adds));
         ahead = ap (λ b. opened_after b after) moves ∙ ap (opened_after opened) (sym next) ∙ so.ahead;
       }
-
-  -- no line is left
-  pub sofar_end : left ≡ [] → LinesRun p bytes before text q
-  sofar_end e =
-      let whole : so.notes ≡ notes_of bytes = sym (append-nil so.notes) ∙ ap (λ ls. so.notes ++ notes_from opened ls) (sym e) ∙ so.all in
-      record {
-        told = so.told;
-        run = subst (λ ns. Ran p (flat_map request_in ns) so.told q) whole so.ran;
-        written = subst (λ ns. Adds before (report_text (lines_report 1 0 ns so.told)) text) whole so.written;
-      }
-
-  pub sofar_open : left ≡ [] → opened ≡ opened_after false (lines_of bytes)
-  sofar_open e = ap (opened_after opened) (sym e) ∙ so.ahead
 
 -- ---- the whole report
 
@@ -151,24 +121,24 @@ with_members : (o : Bool) (b : Ledger) {mid text : List ℕ} → Members o b mid
 with_members true b adds = adds
 with_members false b {mid} {text} same = record { all = same ∙ sym (append-nil mid) }
 
-module _ (from : List Row → Start) (bytes : List ℕ) (rows : List Row) (all : rows ≡ flat_map row_in (notes_of bytes)) (keeps : (rs : List Row) → KeepsLaw (from rs)) where
-  pub whole : (p q : Point) (mid text : List ℕ) (o : Bool) → p ≡ opened (from rows) → LinesRun p bytes [] mid q → o ≡ opened_after false (lines_of bytes) → Members o q.ledger mid text
-      → length bytes ≤ 65536 → ReportedText from bytes text
+module _ (k : Kinds) (from : List Row → Start) (bytes : List ℕ) (rows : List Row) (all : rows ≡ flat_map row_in (notes_of bytes)) (keeps : (rs : List Row) → KeepsLaw (from rs)) where
+  pub whole : (p q : Point) (mid text : List ℕ) (o : Bool) → p ≡ opened (from rows) → LinesRun k p bytes [] mid q → o ≡ opened_after false (lines_of bytes) → Members o q.ledger mid text
+      → length bytes ≤ 65536 → ReportedText k from bytes text
   whole p q mid text o first run is members short =
       let rs : List Row = flat_map row_in (notes_of bytes) in
-      let ran : Ran (opened (from rs)) (flat_map request_in (notes_of bytes)) run.told q = subst (λ x. Ran x (flat_map request_in (notes_of bytes)) run.told q) (first ∙ ap (λ xs. opened (from xs)) all) run.run in
+      let ran : Ran k (opened (from rs)) (flat_map request_in (notes_of bytes)) run.told q = subst (λ x. Ran k x (flat_map request_in (notes_of bytes)) run.told q) (first ∙ ap (λ xs. opened (from xs)) all) run.run in
       let lines : List ReportLine = lines_report 1 0 (notes_of bytes) run.told in
       let tail : List ReportLine = cond o (members_below q.ledger 64) [] in
       let report : List ReportLine = report_of bytes run.told q.ledger in
       record {
         report = report;
-        reported = subst (ReportedIf from bytes report) (sym (le-ltb 65536 (length bytes) short)) (record { told = run.told; end = q; law = ran_lawful (from rs) _ _ q (keeps rs) ran; reported = refl });
+        reported = subst (ReportedIf k from bytes report) (sym (le-ltb 65536 (length bytes) short)) (record { told = run.told; end = q; law = ran_lawful k (from rs) _ _ q (keeps rs) ran; reported = refl });
         written = (more run.written (with_members o q.ledger members)).all
             ∙ sym (text_both lines tail)
             ∙ ap (λ t. report_text (lines ++ cond t (members_below q.ledger 64) [])) is;
       }
 
-pub whole_refused : (from : List Row → Start) (bytes text : List ℕ) → 65536 < length bytes → text ≡ report_text (Refused 0 (shown LongSheet) ∷ []) → ReportedText from bytes text
-whole_refused from bytes text long is =
+pub whole_refused : (k : Kinds) (from : List Row → Start) (bytes text : List ℕ) → 65536 < length bytes → text ≡ report_text (Refused 0 (shown LongSheet) ∷ []) → ReportedText k from bytes text
+whole_refused k from bytes text long is =
     let report : List ReportLine = Refused 0 (shown LongSheet) ∷ [] in
-    record { report = report; reported = subst (ReportedIf from bytes report) (sym (lt-ltb 65536 (length bytes) long)) refl; written = is }
+    record { report = report; reported = subst (ReportedIf k from bytes report) (sym (lt-ltb 65536 (length bytes) long)) refl; written = is }

@@ -3,6 +3,7 @@ use Rattle.std.specs.Prelude.{◌≡◌, ℕ, List, ◌++◌, Ok, Err, Result}
 use Rattle.std.specs.List.{flat_map}
 use Rattle.sheet.specs.declared.outcome.Line.{Line}
 use Rattle.sheet.specs.declared.outcome.Line.TheVariants.{Instrument, Call}
+use Rattle.rules.specs.Law.{Kinds}
 use Rattle.rules.specs.Runs.{Told, Point}
 use Rattle.rules.specs.declared.calls.Request.TheVariants.{Make}
 use Rattle.section.specs.Steps.{Ran, Stepped}
@@ -21,8 +22,8 @@ LineRun p (Ok (Instrument r)) o q = (o ≡ Ok (0, 0)) × (q ≡ p)
 LineRun p (Ok (Call c)) o q = (t : Told) × (o ≡ answers t) × Stepped p (Make c) t q
 LineRun p (Err f) o q = (o ≡ Err f) × (q ≡ p)
 
--- the lines of a sheet are run from one point to another, and their report is added to a text
-pub record LinesRun (p : Point) (bytes before after : List ℕ) (q : Point) : Type 0 where
+-- the lines of a sheet are run over keepers of these kinds from one point to another, and their report is added to a text
+pub record LinesRun (k : Kinds) (p : Point) (bytes before after : List ℕ) (q : Point) : Type 0 where
   pub told : List Told
-  pub run : Ran p (flat_map request_in (notes_of bytes)) told q
+  pub run : Ran k p (flat_map request_in (notes_of bytes)) told q
   pub written : Adds before (report_text (lines_report 1 0 (notes_of bytes) told)) after

@@ -1,15 +1,15 @@
 // Runs a whole day sheet and writes its report.
 ghost use Rattle.std.specs.Prelude.{◌≡◌, ◌≤◌, false, length, string_bytes, IfOk, OnOk};
 ghost use Rattle.fields.specs.Sheets.{lines_of};
-ghost use Rattle.report.specs.Texts.{report_text};
+ghost use Rattle.report.specs.Texts.{line_text, report_text};
 ghost use Rattle.report.specs.Reports.{ReportedText};
-ghost use Rattle.rules.specs.Law.{start};
-ghost use Rattle.section.specs.Steps.{shows};
+ghost use Rattle.rules.specs.Law.{kinds};
+ghost use Rattle.book.specs.Houses.{start_of};
 ghost use Rattle.report.specs.Notes.{opened_after};
 ghost use Rattle.writing.specs.Writings.{Adds, LineRun, LinesRun};
 
 use crate::rows::rows_of;
-use book::{House, TradingBook};
+use book::{House, Shows, TradingBook};
 use charge::ChargeRule;
 use keeper::Keeper;
 use report::{MOST_BYTES, ReportLine, SheetFault, answers, member_lines, note, opens, report_line};
@@ -18,12 +18,20 @@ use section::SectionBook;
 use sheet::{Line, Lines};
 use std::alloc::{AllocError, Global};
 
+/// Adds a line of a report to a text, with its feed. By its `text`: `writeln!` takes 60 instructions more.
+fn write_line(text: &mut String, line: &ReportLine) -> Result<(), AllocError>
+    ensures { OnOk result (Adds (string_bytes text.old) (line_text line.now) (string_bytes text.new)) }
+{
+    text.push_str(line.text().as_str())?;
+    text.push('\n')
+}
+
 /// Adds lines of a report to a text, each with its feed.
 fn write_lines(text: &mut String, lines: &[ReportLine]) -> Result<(), AllocError>
     ensures { OnOk result (Adds (string_bytes text.old) (report_text lines.now) (string_bytes text.new)) }
 {
     for line in lines {
-        writeln!(text, "{line}")?;
+        write_line(text, line)?;
     }
     Ok(())
 }
@@ -33,7 +41,7 @@ fn run_line<M: Keeper, G: Keeper, R: ChargeRule>(
     book: SectionBook<M, G, R>,
     note: Result<Line, SheetFault>,
 ) -> (Result<(u64, u64), SheetFault>, SectionBook<M, G, R>)
-    ensures { LineRun (shows M.Registers G.Registers R.ChargeRule book) note result.0 (shows M.Registers G.Registers R.ChargeRule result.1) }
+    ensures { LineRun (⟦<SectionBook<M, G, R> as Shows>⟧.point book) note result.0 (⟦<SectionBook<M, G, R> as Shows>⟧.point result.1) }
 {
     match note {
         Ok(Line::Call(call)) => {
@@ -52,7 +60,7 @@ fn run_lines<M: Keeper + Drop, G: Keeper + Drop, R: ChargeRule + Drop>(
     text: &mut String,
 ) -> Result<(SectionBook<M, G, R>, bool), AllocError>
     requires { length sheet.now ≤ 65536 }
-    ensures run { IfOk result (λ p. LinesRun (shows M.Registers G.Registers R.ChargeRule book) sheet.now (string_bytes text.old) (string_bytes text.new) (shows M.Registers G.Registers R.ChargeRule p.0)) }
+    ensures run { IfOk result (λ p. LinesRun (kinds M.Registers G.Registers) (⟦<SectionBook<M, G, R> as Shows>⟧.point book) sheet.now (string_bytes text.old) (string_bytes text.new) (⟦<SectionBook<M, G, R> as Shows>⟧.point p.0)) }
     ensures opened { IfOk result (λ p. p.1 ≡ opened_after false (lines_of sheet.now)) }
 {
     let mut book = book;
@@ -60,8 +68,7 @@ fn run_lines<M: Keeper + Drop, G: Keeper + Drop, R: ChargeRule + Drop>(
     for (i, line) in Lines::of(sheet).enumerate() {
         let (outcome, next) = run_line(book, note(line, opened));
         book = next;
-        let reported = report_line(i as u64 + 1, outcome);
-        writeln!(text, "{reported}")?;
+        write_line(text, &report_line(i as u64 + 1, outcome))?;
         opened = opens(opened, line);
     }
     Ok((book, opened))
@@ -75,7 +82,7 @@ pub fn write_sheet<M: Keeper + Drop, G: Keeper + Drop, R: ChargeRule + Drop>(
     sheet: &[u8],
     house: House<M, G, R>,
 ) -> Result<String, AllocError>
-    ensures { IfOk result (λ text. ReportedText (λ rows. start M.Registers G.Registers R.ChargeRule rows house.money house.goods house.rule) sheet.now (string_bytes text)) }
+    ensures { IfOk result (λ text. ReportedText (kinds M.Registers G.Registers) (start_of M.Registers G.Registers R.ChargeRule house) sheet.now (string_bytes text)) }
 {
     let mut text = String::new(heap);
     if sheet.len() > MOST_BYTES {

@@ -3,12 +3,16 @@ use Rattle.std.specs.Prelude.{◌≡◌, ℕ, ◌<◌, ◌≤◌, min, ◌⊎◌
 use Rattle.keeper.specs.Meaning.{Meaning, tabled}
 use Rattle.charge.specs.Charges.{Charge}
 use Rattle.rules.specs.declared.rows.Row.{Row}
-use Rattle.rules.specs.Law.{Start}
+use Rattle.rules.specs.Law.{Kinds, Start}
 use Rattle.report.specs.Reports.{ReportedText}
 
 -- a table of empty registers: one for each place, 1,024 at most
 abbrev pub emptied : ℕ → Meaning
 emptied places = tabled (replicate {A = ℕ} (min places 1024) 0)
+
+-- table keepers of money and of goods: each has the amounts of its table, and needs nothing
+abbrev pub tables : Kinds
+tables x y = ((xs : List ℕ) × (x ≡ tabled xs)) × ((ys : List ℕ) × (y ≡ tabled ys))
 
 -- a day starts from a sheet's rows, a charge rule, and so many places for money and for goods
 abbrev pub day_start : ℕ → Charge → ℕ → ℕ → List Row → Start
@@ -17,7 +21,7 @@ day_start top charge money goods rows = record { rows = rows; top = top; charge 
 -- told the length of the text, which stands at the front of the buffer if it fits there; else the buffer is as it was
 pub record DayTold (from : List Row → Start) (sheet before : List ℕ) (told : ℕ) (after : List ℕ) : Type 0 where
   pub text : List ℕ
-  pub day : ReportedText from sheet text
+  pub day : ReportedText tables from sheet text
   pub length_told : told ≡ length text
   pub fits : length text ≤ length before → after ≡ text ++ drop (length text) before
   pub short : length before < length text → after ≡ before

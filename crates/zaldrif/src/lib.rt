@@ -4,7 +4,7 @@
 ghost use Rattle.std.specs.Prelude.{◌≡◌, ◌≤◌, ◌++◌, length, drop, string_bytes, IfOk};
 ghost use Rattle.charge.specs.Charges.{flat, flat_top, percent, percent_top};
 ghost use Rattle.report.specs.Reports.{ReportedText};
-ghost use Rattle.zaldrif.specs.Days.{DayRun, day_start};
+ghost use Rattle.zaldrif.specs.Days.{DayRun, day_start, tables};
 
 use book::House;
 use charge::{ChargeRule, FlatRule, PercentRule};
@@ -23,7 +23,7 @@ fn day_text<R: ChargeRule + Drop>(
     goods: &mut [u64],
     rule: R,
 ) -> Result<String, AllocError>
-    ensures { IfOk result (λ text. ReportedText (day_start (R.ChargeRule.top rule) (R.ChargeRule.charge rule) (length money.old) (length goods.old)) sheet.now (string_bytes text)) }
+    ensures { IfOk result (λ text. ReportedText tables (day_start (R.ChargeRule.top rule) (R.ChargeRule.charge rule) (length money.old) (length goods.old)) sheet.now (string_bytes text)) }
 {
     let house = House {
         money: TableKeeper::open(money),

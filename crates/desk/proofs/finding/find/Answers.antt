@@ -1,20 +1,22 @@
-use Rattle.std.proofs.Common.{sym, ◌∙◌}
-use Rattle.std.proofs.lemmas.List.{at_drop_all}
-use Rattle.rules.specs.Terms.{found}
-use Rattle.desk.proofs.Searches.{found_here, found_further}
+use Rattle.std.proofs.Common.{◌≡◌, ◌==◌, ℕ, cond, List, [], ◌∷◌, Some, None, Option, Bor, refl, rules, ap, ◌∙◌}
+use Rattle.std.specs.List.{find}
+use Rattle.std.specs.Option.{option_copied, option_map}
+use Rattle.std.proofs.lemmas.Iterator.{YieldsList-from_slice}
+use Rattle.std.proofs.lemmas.Iterator.Search.{find_from_yields_List}
+use Rattle.rules.specs.declared.rows.Row.{Row}
+use Rattle.rules.specs.Terms.{found_row}
 use Rattle.desk.proofs.finding.find.Goals as goal
 
-pub returns-then-number-clause-value : goal.returns-then-number-clause-value
-returns-then-number-clause-value g c =
-    let i = c.item-item in
-    found_here g.T.Numbered.number c.args.number c.args.items.now c.loop-item.item-index i.result c.loop-item-test.true i.is (sym c.number.ensures ∙ c.if-number.true)
-    ∙ c.loop-item.invariant
+copied : {X : Type 0} (o : Option (Bor X)) → option_copied o ≡ option_map (λ y. y.now) o
+copied None = refl
+copied (Some y) = refl
 
-pub loop-item-preserved : goal.loop-item-preserved
-loop-item-preserved g c =
-    let i = c.item-item in
-    found_further g.T.Numbered.number c.args.number c.args.items.now c.loop-item.item-index i.result c.loop-item-test.true i.is (λ e. c.if-number.false (c.number.ensures ∙ e))
-    ∙ c.loop-item.invariant
+same_find : (n : ℕ) (rows : List Row) → find (λ r. r.number == n) rows ≡ found_row n rows
+same_find n [] = refl
+same_find n (x ∷ xs) = ap (λ o. cond (x.number == n) (Some x) o) (same_find n xs)
 
 pub returns-clause-value : goal.returns-clause-value
-returns-clause-value g c = sym (at_drop_all (found g.T.Numbered.number c.args.number) c.args.items.now c.loop-item.item-index c.loop-item-test.false) ∙ c.loop-item.invariant
+returns-clause-value c =
+    let rows = c.args.rows.now in
+    let its : Row → _ = λ r. r.number == c.args.number in
+    c.copied.ensures ∙ copied c.find.result ∙ find_from_yields_List its _ _ c.find.result c.find.ensures.ran (YieldsList-from_slice rows (cc)) (λ x b q k. search rules) ∙ same_find c.args.number rows

@@ -2,7 +2,7 @@ use Rattle.std.proofs.Common.{◌≡◌, ℕ, false, cond, List, [], ◌++◌, l
 use Rattle.std.specs.List.{flat_map}
 use Rattle.std.proofs.lemmas.Bool.{le-ltb}
 use Rattle.fields.specs.Sheets.{lines_of}
-use Rattle.rules.specs.Law.{RunLaw, Start, start}
+use Rattle.rules.specs.Law.{RunLaw, Start, kinds, start}
 use Rattle.rules.specs.declared.rows.Row.{Row}
 use Rattle.rules.specs.Runs.{Point}
 use Rattle.section.specs.Steps.{shows}
@@ -28,8 +28,8 @@ returns g c =
     let requests = c.as_slice-4.ensures.value ∙ c.in_ok-requests.ensures ∙ picked request_of c.as_slice-2.result.now ∙ ap (flat_map request_in) (c.as_slice-2.ensures.value ∙ noted) in
     let t = c.in_ok-told in
     let end : Point = shows m k r t.book in
-    let law : RunLaw (from (flat_map row_in (notes_of bytes))) (flat_map request_in (notes_of bytes)) (vec_items t.told) end =
-    subst₂ (λ xs qs. RunLaw (from xs) qs (vec_items t.told) end) rows requests t.ensures in
+    let law : RunLaw (kinds m k) (from (flat_map row_in (notes_of bytes))) (flat_map request_in (notes_of bytes)) (vec_items t.told) end =
+    subst₂ (λ xs qs. RunLaw (kinds m k) (from xs) qs (vec_items t.told) end) rows requests t.ensures in
     let lines = c.in_ok-report.ensures ∙ ap₂ (lines_report 1 0) (c.as_slice-5.ensures.value ∙ noted) c.as_slice-6.ensures.value in
     let members : List ReportLine = members_below end.ledger 64 in
     let reported : vec_items c.if-notes.report ≡ report_of bytes (vec_items t.told) end.ledger =
@@ -40,4 +40,4 @@ returns g c =
           rw w.report-is (without_members n.notes.opened (opened_after false (lines_of bytes)) _ members n.ensures.opened w.if-notes.false ∙ ap (λ xs. xs ++ cond (opened_after false (lines_of bytes)) members []) lines)
     ] in
     let short = le-ltb 65536 (length bytes) c.if-sheet-gt-MOST_BYTES.false in
-    subst (ReportedIf from bytes (vec_items c.if-notes.report)) (sym short) (record { told = vec_items t.told; end = end; law = law; reported = reported })
+    subst (ReportedIf (kinds m k) from bytes (vec_items c.if-notes.report)) (sym short) (record { told = vec_items t.told; end = end; law = law; reported = reported })

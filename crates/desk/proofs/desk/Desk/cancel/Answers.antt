@@ -1,9 +1,15 @@
-use Rattle.std.proofs.Common.{◌≡◌, filter, rules}
-use Rattle.std.proofs.lemmas.Fn.{filter_same}
 use Rattle.rules.specs.Orders.{other_order}
+use Rattle.desk.specs.Fits.{fit_order}
+use Rattle.desk.proofs.Fitting.{fit_kept}
+use Rattle.desk.proofs.Rising.{rising_kept}
 use Rattle.desk.proofs.desk.Desk.cancel.Goals as goal
 
-pub returns : goal.returns
-returns c =
-    let kept : c.retain.new.self.items ≡ filter (other_order c.args.number) c.args.self.now.orders.items = filter_same _ _ _ (λ x b f' k. search rules) _ _ c.retain.ensures.filtered in
-    search rules
+pub invariant_of-self-clause-sized : goal.invariant_of-self-clause-sized
+invariant_of-self-clause-sized c =
+    let d = c.args.self.now in
+    fit_kept fit_order (other_order c.args.number) d.orders.items.items _ c.end.ensures.items d.sized
+
+pub invariant_of-self-clause-orders_rise : goal.invariant_of-self-clause-orders_rise
+invariant_of-self-clause-orders_rise c =
+    let d = c.args.self.now in
+    rising_kept (λ o. o.order.number) (other_order c.args.number) d.orders.items.items _ d.orders.last _ c.end.ensures.items c.end.ensures.last d.orders_rise

@@ -1,17 +1,38 @@
-use Rattle.std.proofs.Common.{◌≡◌, filter, length, rules, ap, arith}
+use Rattle.std.proofs.Common.{◌≡◌, filter, length, refl, rules, ap, arith}
 use Rattle.std.proofs.lemmas.Fn.{filter_same}
 use Rattle.rules.specs.Limits.{session, trading}
 use Rattle.rules.specs.Effects.{in_half}
 use Rattle.rules.specs.Orders.{ends_on, goes_on}
+use Rattle.desk.specs.Fits.{fit_order}
 use Rattle.desk.specs.Views.{desk_of}
+use Rattle.desk.proofs.Fitting.{fit_kept}
 use Rattle.desk.proofs.Lists.{dropped_count}
+use Rattle.desk.proofs.Rising.{rising_kept}
 use Rattle.desk.proofs.desk.Desk.end_trading.Goals as goal
 
 pub returns : goal.returns
 returns c =
     let d = c.args.self.now in
-    let kept : c.retain.new.self.items ≡ filter (goes_on d.day) d.orders.items = filter_same _ _ _ (λ x b f' k. search rules) _ _ c.retain.ensures.filtered in
+    let kept : c.retain.new.self.items ≡ filter (goes_on d.day) d.orders.items.items = filter_same _ _ _ (λ x b f' k. search rules) _ _ c.retain.ensures.filtered in
     record {
-      told = omega (arith, ap length kept, c.len-before.ensures, c.len.ensures, d.orders.ok.0, c.retain.new.self.ok.0, dropped_count (ends_on d.day) d.orders.items);
+      told = omega (arith, ap length kept, c.len-before.ensures, c.len.ensures, d.orders.items.ok.0, c.retain.new.self.ok.0, dropped_count (ends_on d.day) d.orders.items.items);
       desk = ap (in_half (desk_of trading d) session d.day) kept;
     }
+
+pub invariant_of-self : goal.invariant_of-self
+invariant_of-self c =
+    let d = c.args.self.now in
+    let orders = d.orders.items.items in
+    let kept : c.retain.new.self.items ≡ filter (goes_on d.day) orders = filter_same _ _ _ (λ x b f' k. search rules) _ _ c.retain.ensures.filtered in (
+      (search rules, (search rules, tt)),
+      (
+        search rules,
+        (
+          search rules,
+          (
+            fit_kept fit_order (goes_on d.day) orders c.retain.new.self.items kept d.sized,
+            (search rules, (rising_kept (λ o. o.order.number) (goes_on d.day) orders c.retain.new.self.items d.orders.last d.orders.last kept refl d.orders_rise, (search rules, tt))),
+          ),
+        ),
+      ),
+    )
