@@ -1,5 +1,5 @@
 -- What as many orders or contracts as can be live hold together.
-use Rattle.std.proofs.Common.{◌≡◌, ℕ, ◌+◌, ◌^◌, ◌<◌, ◌≤◌, Bool, true, false, cond, ◌||◌, List, [], ◌∷◌, length, filter, fold, Option, Iter, refl, sym, ◌∙◌, arith}
+use Rattle.std.proofs.Common.{◌≡◌, ℕ, ◌+◌, ◌^◌, ◌<◌, ◌≤◌, Bool, true, false, cond, List, [], ◌∷◌, length, filter, fold, Option, Iter, refl, sym, ◌∙◌, arith}
 use Rattle.std.proofs.lemmas.Iterator.{YieldsList-from_slice}
 use Rattle.std.proofs.lemmas.Iterator.Adapters.{YieldsAtMost, fits_from_length, at_most_from_yields_List}
 use Rattle.std.proofs.lemmas.List.Sums.{sum_by-cons}
@@ -41,9 +41,3 @@ module _ {X : Type 0} (p : X → Bool) (f h : X → ℕ) (each : (x : X) → con
   pub sum_by-filter : (xs : List X) → sum_by f (filter p xs) ≡ sum_by h xs
   sum_by-filter [] = refl
   sum_by-filter (x ∷ xs) = one_more (p x) x (filter p xs) xs (each x) (sum_by-filter xs)
-
--- what counts for either of two parties counts nothing for others
-pub for_either : (s t : Bool) (x y : ℕ) → cond (s || t) (cond s x 0 + cond t y 0) 0 ≡ cond s x 0 + cond t y 0
-for_either true t x y = refl
-for_either false true x y = refl
-for_either false false x y = refl

@@ -1,5 +1,4 @@
 pub mod Lists
 pub mod Fitting
-pub mod Openings
 pub mod Holding
 pub mod Rising

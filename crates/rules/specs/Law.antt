@@ -68,7 +68,7 @@ pub record RunLaw (k : Kinds) (o : Start) (requests : List Request) (told : List
   pub answered : map (λ s. s.told) steps ≡ told
   -- each answer and each reply is the ledger's, fed nothing but the start and, before each request, the keepers' spares and needs
   pub ruled : Run (opened o) steps
-  -- those spares and needs are the keepers' own: after each step the two mean what keepers of their kinds can
+  -- those spares and needs are no free numbers: after each step the two meanings are such as keepers of these kinds can have
   pub meant : All (λ s. k s.money s.goods) steps
   -- the steps lead to what the book shows
   pub ended : end ≡ reached (opened o) steps

@@ -1,4 +1,4 @@
-use Rattle.std.proofs.Common.{rules, arith}
+use Rattle.std.proofs.Common.{rules}
 use Rattle.desk.proofs.Holding.{few_items, held_bound, holds_fit}
 use Rattle.desk.proofs.desk.Desk.orders_on_goods.Goals as goal
 
