@@ -1069,8 +1069,60 @@ def garbage():
     write("garbage", b"\n".join(lines) + b"\n")
 
 
+# --- every field of every verb ------------------------------------------------
+
+# Fields in form, by verb: n a number, l the optional last day, and else a letter.
+FORMS = {
+    "INS": "n0 S n1 n0 n0 n1", "DEP": "n1 P n5", "WDR": "n1 P n5", "SHF": "n1 C n2",
+    "GIN": "n1 n0 n7", "GOT": "n1 n0 n7", "ORD": "n9 n1 B n0 n10 n1 l", "CXL": "n9",
+    "TRD": "n1 n1 n2 n3 n4", "RTE": "n0 n5", "EOT": "", "FND": "n1", "DLV": "n1 n5",
+    "DFT": "n1", "EOD": "",
+}
+
+# What is in no form of a number, of a last day, and of a letter.
+NO_NUMBER = ["", "x", "01", "+1", " 1", "1 ", "12345678901234567"]
+NO_LAST_DAY = NO_NUMBER[1:]
+NO_LETTER = ["", "Q", "p", "PP", "1"]
+
+
+def misfits(sheet, verb):
+    """Each field out of form alone, then together with the last; then a field too few and too many."""
+    forms = FORMS[verb].split()
+    good = [form[1:] if form[0] in "nl" else form for form in forms]
+    for place, form in enumerate(forms, 1):
+        wrong = {"n": NO_NUMBER, "l": NO_LAST_DAY}.get(form[0], NO_LETTER)
+        for field in wrong:
+            fields = good[:place - 1] + [field] + good[place:]
+            sheet.add(",".join([verb] + fields), f"R,S,54,{place}")
+        if place < len(forms):
+            fields = good[:place - 1] + ["*"] + good[place:-1] + ["*"]
+            sheet.add(",".join([verb] + fields), f"R,S,54,{place}")
+    if forms:
+        sheet.add(",".join([verb] + good[:-1]), "R,S,53,0")
+    sheet.add(",".join([verb] + good + ["1"]), "R,S,53,0")
+    sheet.add(",".join([verb] + good + [""]), "R,S,53,0")
+
+
+def rows_alone():
+    """A sheet that never opens the book: rows, and lines whose first field is INS. It lists no member."""
+    sheet = Sheet().add("INS,0,S,60000,1,10,500", "A,0,0")
+    misfits(sheet, "INS")
+    sheet.add("INS," + "1" * 117, "R,S,51,0").add("INS", "R,S,53,0")
+    sheet.add("INS,3,W,50,0,0,0", "A,0,0")
+    write("rows-alone", sheet.text(), sheet=sheet, members="")
+
+
+def fields():
+    """Every field of every verb out of its form, and every verb with a field too few and too many."""
+    sheet = Sheet().add("INS,0,W,50,1,10,500", "A,0,0").add("DEP,1,P,5", "A,5,0")
+    for verb in FORMS:
+        misfits(sheet, verb)
+    sheet.add("WDR,1,P,1", "A,4,0")
+    write("fields", sheet.text(), sheet=sheet)
+
+
 def main():
-    for build in (sample, accounts, opening, exchange, settlement, journal, sizes, garbage):
+    for build in (sample, accounts, opening, exchange, settlement, journal, sizes, rows_alone, fields, garbage):
         build()
 
 

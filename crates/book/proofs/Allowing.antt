@@ -1,5 +1,5 @@
 -- The book's checks, and the ruling that follows from them.
-use Rattle.std.proofs.Common.{◌≡◌, ℕ, Bool, true, false, cond, List, [], ◌∷◌, Some, None, Ok, Err, IsErrAnd, Option, Result, refl, ap, arith}
+use Rattle.std.proofs.Common.{◌≡◌, ℕ, Bool, true, false, cond, List, [], ◌∷◌, Some, Ok, Err, IsErrAnd, Option, Result, refl, ap, arith}
 use Rattle.std.proofs.lemmas.Result.{err_from_is_err_and}
 use Rattle.rules.specs.declared.contracts.Trade.{Trade}
 use Rattle.rules.specs.declared.refusals.Refusal.{Refusal}
@@ -8,7 +8,7 @@ use Rattle.rules.specs.declared.calls.Call.TheVariants.{Execute}
 use Rattle.rules.specs.Limits.{Desk}
 use Rattle.rules.specs.Checks.{Check, checks}
 use Rattle.rules.specs.Rulings.{allowed, first_met}
-use Rattle.rules.specs.Runs.{Point, Called}
+use Rattle.rules.specs.Runs.{Called, Kinds, Point}
 use Rattle.desk.specs.Called.{DeskCalled, alone}
 use Rattle.desk.specs.Views.{holding}
 
@@ -29,14 +29,14 @@ allowed_ok [] last h = refl
 allowed_ok (c ∷ cs) last h = one_ok c.0 c.1 (allowed cs) (first_met cs last) last (allowed_ok cs last) h
 
 -- a call that its checks refuse has touched nothing; its refusal is what a `?` returns
-module _ (p : Point) (c : Call) (e : Refusal) (h : allowed (checks p.ledger c) ≡ Err e) where
-  pub refused : (r : Result (ℕ × ℕ) Refusal) → IsErrAnd r (λ x. x ≡ e) → Called p c r p
+module _ (k : Kinds) (p : Point) (c : Call) (e : Refusal) (h : allowed (checks p.ledger c) ≡ Err e) where
+  pub refused : (r : Result (ℕ × ℕ) Refusal) → IsErrAnd r (λ x. x ≡ e) → Called k p c r p
   refused r out =
       let exit = err_from_is_err_and r out in
       rw (exit.1, exit.2) (allowed_err (checks p.ledger c) _ e h, refl)
 
   -- likewise where the call answers one number
-  pub refused_alone : (r : Result ℕ Refusal) → IsErrAnd r (λ x. x ≡ e) → Called p c (alone r) p
+  pub refused_alone : (r : Result ℕ Refusal) → IsErrAnd r (λ x. x ≡ e) → Called k p c (alone r) p
   refused_alone r out =
       let exit = err_from_is_err_and r out in
       rw (exit.1, exit.2) (allowed_err (checks p.ledger c) _ e h, refl)
@@ -50,7 +50,8 @@ with_desk p d =
       goods = p.goods;
     }
 
--- a trade comes out at the book as it does at the desk
-pub executed : (p : Point) (t : Trade) (r : Result (ℕ × ℕ) Refusal) (d : Desk) → DeskCalled (holding p.ledger.charge p.ledger.desk) (Execute t) r d → Called p (Execute t) r (with_desk p d)
-executed p t (Ok v) d h = (allowed_ok (checks p.ledger (Execute t)) None h.0, h.1, ap (λ x. (with_desk p x).ledger) h.2, refl, refl)
-executed p t (Err e) d h = (allowed_err (checks p.ledger (Execute t)) None e h.0, ap (with_desk p) h.1)
+-- a trade that the desk refuses is refused by the book; its refusal is what a `?` returns
+pub trade_refused : (k : Kinds) (p : Point) (t : Trade) (e : Refusal) (d : Desk) → DeskCalled (holding p.ledger.charge p.ledger.desk) (Execute t) (Err e) d → (r : Result (ℕ × ℕ) Refusal) → IsErrAnd r (λ x. x ≡ e) → Called k p (Execute t) r (with_desk p d)
+trade_refused k p t e d h r out =
+    let exit = err_from_is_err_and r out in
+    rw (exit.1, exit.2) (allowed_err (checks p.ledger (Execute t)) _ e h.0, ap (with_desk p) h.1)

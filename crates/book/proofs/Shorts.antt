@@ -7,7 +7,7 @@ use Rattle.rules.specs.Checks.{checks}
 use Rattle.rules.specs.Effects.{desk_after}
 use Rattle.rules.specs.Limits.{Desk, Ledger, is_short, short_below}
 use Rattle.rules.specs.Rulings.{allowed}
-use Rattle.rules.specs.Runs.{Point, Called}
+use Rattle.rules.specs.Runs.{Called, Kinds, Point}
 use Rattle.book.proofs.Allowing.{allowed_ok, with_desk}
 
 -- one number more at the end
@@ -25,8 +25,8 @@ short_among b zero = refl
 short_among b (suc n) = count_more (is_short b) 0 n n (omega arith) ∙ ap (λ k. k + cond (is_short b n) 1 0) (short_among b n)
 
 -- a rating that the desk made answers the count after it
-pub rated : (p : Point) (i rate : ℕ) (d : Desk) → allowed (checks p.ledger (Rerate i rate)) ≡ Ok tt → d ≡ desk_after p.ledger (Rerate i rate)
-    → (n : ℕ) → n ≡ count_by (is_short (with_desk p d).ledger) (range_with_len 0 64) → Called p (Rerate i rate) (Ok (n, 0)) (with_desk p d)
-rated p i rate d ok is n count =
+pub rated : (k : Kinds) (p : Point) (i rate : ℕ) (d : Desk) → allowed (checks p.ledger (Rerate i rate)) ≡ Ok tt → d ≡ desk_after p.ledger (Rerate i rate)
+    → (n : ℕ) → n ≡ count_by (is_short (with_desk p d).ledger) (range_with_len 0 64) → Called k p (Rerate i rate) (Ok (n, 0)) (with_desk p d)
+rated k p i rate d ok is n count =
     let shorts = count ∙ short_among (with_desk p d).ledger 64 ∙ ap (λ x. short_below (with_desk p x).ledger 64) is in
-    (allowed_ok (checks p.ledger (Rerate i rate)) None ok, ap (λ k. (k, 0)) shorts, ap (λ x. (with_desk p x).ledger) is, refl, refl)
+    (allowed_ok (checks p.ledger (Rerate i rate)) None ok, ap (λ k. (k, 0)) shorts, ap (λ x. (with_desk p x).ledger) is, refl, refl, (refl, refl))

@@ -4,8 +4,8 @@ use Rattle.rules.specs.declared.refusals.Refusal.{Refusal}
 use Rattle.rules.specs.declared.calls.Call.{Call}
 use Rattle.rules.specs.Checks.{checks}
 use Rattle.rules.specs.Limits.{Ledger}
+use Rattle.rules.specs.Rulings as rulings
 use Rattle.rules.specs.Runs.{Called}
-use Rattle.desk.specs.Called as desk
 use Rattle.book.specs.declared.shows.Shows as shows
 
 module _ {B : Type 0} (s : shows.Ghosts B) where
@@ -15,8 +15,8 @@ module _ {B : Type 0} (s : shows.Ghosts B) where
 
   -- a call to a book came out by the rules
   abbrev pub Calls : B → Call → Result (ℕ × ℕ) Refusal → B → Type 0
-  Calls b c v b' = Called (s.point b) c v (s.point b')
+  Calls b c v b' = Called s.kinds (s.point b) c v (s.point b')
 
   -- the book's checks of a call let it pass, with what is then known of it, or the first that is met refuses it
   abbrev pub Checked : {X : Type 0} → B → Call → (X → Type 0) → Result X Refusal → Type 0
-  Checked b c P r = desk.Checked (checks (ledger b) c) P r
+  Checked b c P r = rulings.Checked (checks (ledger b) c) P r

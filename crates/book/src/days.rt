@@ -6,7 +6,7 @@ ghost use Rattle.rules.specs.declared.calls.Call.TheVariants.{EndSession, EndTra
 ghost use Rattle.book.specs.Houses.{start_of};
 
 use crate::book::{Book, SessionBook, TradingBook};
-use crate::halves::{Session, Trading};
+use crate::halves::{HalfOfDay, Session, Trading};
 use crate::house::House;
 use crate::shows::Shows;
 use charge::ChargeRule;
@@ -33,10 +33,20 @@ impl<M: Keeper + Drop, G: Keeper + Drop, R: ChargeRule + Drop> TradingBook<M, G,
     }
 }
 
+impl<H: HalfOfDay + Drop, M: Keeper, G: Keeper, R: ChargeRule> Book<H, M, G, R> {
+    /// Gives back what the book stands on: a journal's entries are then at hand.
+    pub fn into_house(self) -> House<M, G, R>
+        ensures { result ≡ self.house }
+    {
+        let Book { house, .. } = self;
+        house
+    }
+}
+
 impl<M: Keeper, G: Keeper, R: ChargeRule> TradingBook<M, G, R> {
     /// Ends the trading: drops each order whose last day is today, and tells how many.
     pub fn end_trading(self) -> (SessionBook<M, G, R>, u64)
-        ensures { Called (⟦<Self as Shows>⟧.point self) EndTrading (Ok (result.1, 0)) (⟦<SessionBook<M, G, R> as Shows>⟧.point result.0) }
+        ensures { Called ⟦<Self as Shows>⟧.kinds (⟦<Self as Shows>⟧.point self) EndTrading (Ok (result.1, 0)) (⟦<SessionBook<M, G, R> as Shows>⟧.point result.0) }
     {
         let Book {
             half: _,
@@ -56,7 +66,7 @@ impl<M: Keeper, G: Keeper, R: ChargeRule> TradingBook<M, G, R> {
 impl<M: Keeper, G: Keeper, R: ChargeRule> SessionBook<M, G, R> {
     /// Ends the session: gives the next day's trading book.
     pub fn end_session(self) -> TradingBook<M, G, R>
-        ensures { Called (⟦<Self as Shows>⟧.point self) EndSession (Ok (0, 0)) (⟦<TradingBook<M, G, R> as Shows>⟧.point result) }
+        ensures { Called ⟦<Self as Shows>⟧.kinds (⟦<Self as Shows>⟧.point self) EndSession (Ok (0, 0)) (⟦<TradingBook<M, G, R> as Shows>⟧.point result) }
     {
         let Book {
             half: _,

@@ -20,7 +20,7 @@ pub struct House<M, G, R> {
 impl<M: Keeper, G: Keeper, R> House<M, G, R> {
     /// Posts an entry of money, and answers what is then in the register that it names.
     pub(crate) fn enter_money(&mut self, entry: Entry) -> Result<u64, Refusal>
-        ensures answers { Answers refusals.Money (M.Registers.meaning self.old.money) entry result (M.Registers.meaning self.new.money) }
+        ensures answers { Answers M.Registers.conduct refusals.Money (M.Registers.meaning self.old.money) entry result (M.Registers.meaning self.new.money) }
         ensures rest { (self.new.goods ≡ self.old.goods) × (self.new.rule ≡ self.old.rule) }
     {
         enter(&mut self.money, entry).map_err(Refusal::Money)
@@ -28,7 +28,7 @@ impl<M: Keeper, G: Keeper, R> House<M, G, R> {
 
     /// Posts an entry of goods, likewise.
     pub(crate) fn enter_goods(&mut self, entry: Entry) -> Result<u64, Refusal>
-        ensures answers { Answers refusals.Goods (G.Registers.meaning self.old.goods) entry result (G.Registers.meaning self.new.goods) }
+        ensures answers { Answers G.Registers.conduct refusals.Goods (G.Registers.meaning self.old.goods) entry result (G.Registers.meaning self.new.goods) }
         ensures rest { (self.new.money ≡ self.old.money) × (self.new.rule ≡ self.old.rule) }
     {
         enter(&mut self.goods, entry).map_err(Refusal::Goods)

@@ -63,7 +63,7 @@ impl<M: Keeper, G: Keeper, R: ChargeRule> SessionBook<M, G, R> {
             .contract(contract)
             .ok_or(Refusal::ContractNotLive)?;
         let occasion = self.occasion(&found, event);
-        self.desk.turn(&self.house.rule, contract, occasion)
+        self.desk.turn(&self.house.rule, &found, occasion)
     }
 
     /// An event of a live contract: refused by its own state and the day, then by the keepers, which are both

@@ -70,7 +70,8 @@ impl<M: Keeper, G: Keeper, R: ChargeRule> TradingBook<M, G, R> {
     pub fn execute(&mut self, trade: Trade) -> Result<(u64, u64), Refusal>
         ensures { Calls ⟦<Self as Shows>⟧ self.old (Execute trade) result self.new }
     {
-        self.desk.execute(&self.house.rule, trade)
+        let (of_buyer, of_seller) = self.desk.execute(&self.house.rule, trade)?;
+        Ok((of_buyer, of_seller))
     }
 
     /// Whether a known member has a demand above 0.

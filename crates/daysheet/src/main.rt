@@ -2,7 +2,9 @@
 #![tactic(auto)]
 
 use console::run_day;
+use std::io::BufWriter;
 
 fn main(rt: HostRuntime) -> anyhow::Result<()> {
-    run_day(&rt)
+    let mut out = BufWriter::new(rt.alloc(), rt.stdout())?;
+    run_day(rt.alloc(), rt.stdin(), &mut out)
 }

@@ -1,5 +1,5 @@
 -- Lists whose numbers rise: what a search finds there, and what keeps them so.
-use Rattle.std.proofs.Common.{◌≡◌, ℕ, zero, suc, ◌<◌, ◌≤◌, Bool, true, false, cond, ◌||◌, eqb, List, [], ◌∷◌, ◌++◌, length, get_or, map, filter, set, not, Some, None, Result, Ok, Err, MatchOption, refl, sym, ap, subst, ◌∙◌, ⊎_elim, arith}
+use Rattle.std.proofs.Common.{◌≡◌, ℕ, zero, suc, ◌<◌, ◌≤◌, Bool, true, false, cond, ◌||◌, eqb, List, [], ◌∷◌, ◌++◌, length, get_or, map, filter, set, not, Some, None, Option, Result, Ok, Err, MatchOption, refl, sym, ap, subst, ◌∙◌, ⊎_elim, ◌==◌, ◌&&◌, is_some, fold, arith}
 use Rattle.std.specs.List.{HoldsAt, remove}
 use Rattle.std.specs.List.Sorted.{IsBinarySearchResult, IsNonDecreasingBy, IsPartitionPoint, IsSearchInRange}
 use Rattle.std.specs.declared.cmp.Ordering.TheVariants.{Less, Equal, Greater}
@@ -12,14 +12,17 @@ use Rattle.std.proofs.lemmas.List.{get_or_default, get_or-map, length-map}
 use Rattle.std.proofs.lemmas.List.Elements.{All-filter, All-get_or, All-map, All-push, All-weaker}
 use Rattle.std.proofs.lemmas.List.Kept.{AllPairs-filter}
 use Rattle.std.proofs.lemmas.List.Quantifiers.{all_pairs_push}
-use Rattle.rules.specs.Terms.{found}
+use Rattle.rules.specs.Terms.{admits, admitted, found, found_row, good_row, in_force}
+use mathlib.Core.Bool.{true≢false}
 use Rattle.rules.specs.declared.orders.LiveOrder.{LiveOrder}
 use Rattle.rules.specs.declared.contracts.Trade.{Trade}
 use Rattle.rules.specs.declared.contracts.State.{State}
 use Rattle.rules.specs.declared.contracts.Contract.{Contract}
 use Rattle.rules.specs.Orders.{lowered_by}
-use Rattle.rules.specs.Effects.{in_state}
-use Rattle.desk.specs.Numbers.{Rising, changed, other}
+use Rattle.rules.specs.Effects.{in_state, rerated}
+use Rattle.rules.specs.declared.rows.Row.{Row}
+use Rattle.std.specs.Bool.{⊤}
+use Rattle.desk.specs.Numbers.{Distinct, Rising, changed, other}
 
 module _ {X : Type 0} (number : X → ℕ) where
   abbrev Below : X → X → Type 0
@@ -127,6 +130,44 @@ module _ {X : Type 0} (number : X → ℕ) where
         subst (λ l. IsPartitionPoint (λ y. nat_cmp (number y) n ≡ Less) (λ y. nat_cmp (number y) n ≡ Greater) l k) is (parts (subst (λ l. IsNonDecreasingBy (λ y. ordering_index (nat_cmp (number y) n)) l) (sym is) comparisons_rise)) in
         λ j d h here. ⊎_elim (λ (below : j < k). let less : number (get_or xs j d) < n = ranked _ n _ (sym (parted.0 j d (omega arith) below)) in absurd (omega (arith, less, here))) (λ (above : k ≤ j). let more : n < number (get_or xs j d) = ranked _ n _ (sym (parted.1 j d above h)) in absurd (omega (arith, more, here))) (cases_lt j k)
 
+-- lists in which no two have one number
+module _ {X : Type 0} (number : X → ℕ) where
+  abbrev Apart : X → X → Type 0
+  Apart x y = number x ≡ number y → ⊥
+
+  no_some : (x : X) → Some x ≡ None → ⊥
+  no_some x h = subst (λ o. MatchOption o ⊥ (λ _. ⊤)) h tt
+
+  left : (b : Bool) (x : X) (o : Option X) → cond b (Some x) o ≡ None → o ≡ None
+  left true x o h = absurd (no_some x h)
+  left false x o h = h
+
+  none_found : (n : ℕ) (xs : List X) → found number n xs ≡ None → Absent number n xs
+  none_found n [] none j d lt same = omega (arith, lt)
+  none_found n (x ∷ xs) none zero d lt same = no_some x (sym (cond-true _ _ _ (eq-eqb _ n same)) ∙ none)
+  none_found n (x ∷ xs) none (suc j) d lt same = none_found n xs (left (number x == n) x (found number n xs) none) j d (omega (arith, lt)) same
+
+  pub distinct_push : (xs : List X) (y : X) → found number (number y) xs ≡ None → Distinct number xs → Distinct number (xs ++ y ∷ [])
+  distinct_push xs y none up = all_pairs_push Apart xs y up (none_found (number y) xs none)
+
+  -- each changed, but for its number
+  pub distinct_mapped : (f : X → X) → ((x : X) → number (f x) ≡ number x) → (xs ys : List X) → ys ≡ map f xs → Distinct number xs → Distinct number ys
+  distinct_mapped f keeps xs ys is up =
+      let at : (i : ℕ) (d : X) → i < length xs → number (get_or (map f xs) i d) ≡ number (get_or xs i d) = λ i d h. ap number (get_or-map f xs i d d h) ∙ keeps _ in
+      let long = length-map xs f in
+      subst (λ zs. Distinct number zs) (sym is) (λ i j d lt h same. (let a = at i d (omega (arith, lt, h, long)) in let b = at j d (omega (arith, h, long)) in up i j d lt (omega (arith, h, long)) (sym a ∙ same ∙ b)))
+
+  -- one that has a number is what a search for it finds
+  pub distinct_found : (n : ℕ) (xs : List X) → Distinct number xs → (k : ℕ) (d : X) → k < length xs → number (get_or xs k d) ≡ n → found number n xs ≡ Some (get_or xs k d)
+  distinct_found n xs up k d h e =
+      let only : Only number n xs k d = record {
+        inside = h;
+        has = e;
+        below = λ j lt same. up j k d lt h (same ∙ sym e);
+        above = λ j f lt inside same. (let here = ap number (get_or_default xs k f d h) in up k j f lt inside (omega (arith, same, e, here)));
+      } in
+      found_at number n xs k d only
+
 -- a trade and an event leave the numbers
 changed_number : {X : Type 0} (number : X → ℕ) (t : Bool) (x y : X) → number x ≡ number y → number (cond t x y) ≡ number y
 changed_number number true x y e = e
@@ -137,3 +178,24 @@ lowered_number t o = changed_number (λ o. o.order.number) (eqb o.order.number t
 
 pub in_state_number : (n : ℕ) (s : State) (k : Contract) → (in_state n s k).trade.contract ≡ k.trade.contract
 in_state_number n s k = changed_number (λ k. k.trade.contract) (eqb k.trade.contract n) _ k refl
+
+pub rerated_number : (i rate : ℕ) (r : Row) → (rerated i rate r).number ≡ r.number
+rerated_number i rate r = changed_number (λ r. r.number) (eqb r.number i) _ r refl
+
+-- no two rows in force have one number
+module _ (top : ℕ) where
+  none_in : (b : Bool) (o : Option Row) → (b && not (is_some o)) ≡ true → o ≡ None
+  none_in b None e = refl
+  none_in true (Some r) e = absurd (true≢false (sym e))
+  none_in false (Some r) e = absurd (true≢false (sym e))
+
+  admitted_distinct : (rows : List Row) (r : Row) → Distinct (λ r. r.number) rows → (b : Bool) → admits top rows r ≡ b → Distinct (λ r. r.number) (cond b (rows ++ r ∷ []) rows)
+  admitted_distinct rows r up true e = distinct_push (λ r. r.number) rows r (none_in (good_row top r) (found_row r.number rows) e) up
+  admitted_distinct rows r up false e = up
+
+  fold_distinct : (listed rows : List Row) → Distinct (λ r. r.number) listed → Distinct (λ r. r.number) (fold (admitted top) listed rows)
+  fold_distinct listed [] up = up
+  fold_distinct listed (r ∷ rows) up = fold_distinct (admitted top listed r) rows (admitted_distinct listed r up (admits top listed r) refl)
+
+  pub in_force_distinct : (rows : List Row) → Distinct (λ r. r.number) (in_force top rows)
+  in_force_distinct rows = fold_distinct [] rows (λ i j d lt h same. omega (arith, h))

@@ -1,8 +1,7 @@
 -- What a desk stands for. Assumes nothing.
-use Rattle.std.specs.Prelude.{ℕ, Bool, not, ◌&&◌, List, [], is_some, vec_items}
+use Rattle.std.specs.Prelude.{List, [], vec_items}
 use Rattle.charge.specs.Charges.{Charge}
 use Rattle.rules.specs.declared.rows.Row.{Row}
-use Rattle.rules.specs.Terms.{good_row, found_row}
 use Rattle.rules.specs.Limits as limits
 use Rattle.desk.specs.declared.desk.Desk.{Desk}
 
@@ -18,10 +17,6 @@ desk_of h d =
       last_order = d.orders.last;
       last_contract = d.contracts.last;
     }
-
--- a row is taken into those that are listed so far
-abbrev pub admits : ℕ → List Row → Row → Bool
-admits top rows r = good_row top r && not (is_some (found_row r.number rows))
 
 -- the rules' desk at the opening
 abbrev pub fresh_desk : List Row → limits.Desk

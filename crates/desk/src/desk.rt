@@ -2,7 +2,7 @@
 ghost use Rattle.std.specs.Prelude.{◌≤◌};
 ghost use Rattle.std.specs.List.{AllPass};
 ghost use Rattle.desk.specs.Fits.{fit_order};
-ghost use Rattle.desk.specs.Numbers.{Rising};
+ghost use Rattle.desk.specs.Numbers.{Distinct, Rising};
 ghost use Rattle.settling.specs.Fits.{fit_contract, fit_row};
 
 use crate::live::Live;
@@ -19,6 +19,7 @@ pub struct Desk {
     pub(crate) contracts: Live<Contract>,
     ghost early: { day ≤ 36500 },
     ghost listed: { AllPass fit_row rows.items },
+    ghost distinct: { Distinct (λ r. r.number) rows.items },
     ghost sized: { AllPass fit_order orders.items.items },
     ghost priced: { AllPass fit_contract contracts.items.items },
     ghost orders_rise: { Rising (λ o. o.order.number) orders.items.items orders.last },

@@ -35,6 +35,11 @@ impl Desk {
         ensures value { result ≡ found_row instrument self.now.rows.items }
         ensures fit { IfSome result (λ x. (x.number ≡ instrument) × (fit_row x ≡ true)) }
     {
+        // Rows are mostly listed by their numbers, from 0 on.
+        let at = instrument as usize;
+        if at < self.rows.len() && self.rows[at].number == instrument {
+            return Some(self.rows[at]);
+        }
         find(self.rows.as_slice(), instrument)
     }
 

@@ -143,7 +143,8 @@ impl Desk {
         self.contracts
             .items
             .iter()
-            .filter(|contract| contract.buyer == member || contract.seller == member)
+            // By `|`, one branch for both parties: it is faster.
+            .filter(|contract| (contract.buyer == member) | (contract.seller == member))
             .map(|contract| self.contract_on_position(rule, member, contract))
             .sum()
     }
@@ -164,6 +165,7 @@ impl Desk {
         self.contracts
             .items
             .iter()
+            .filter(|contract| contract.buyer == member)
             .map(|contract| contract_on_clearing(member, contract))
             .sum()
     }
@@ -175,6 +177,7 @@ impl Desk {
         self.orders
             .items
             .iter()
+            .filter(|live| live.order.member == member && live.order.instrument == instrument)
             .map(|live| self.order_on_goods(member, instrument, live))
             .sum()
     }
@@ -186,6 +189,7 @@ impl Desk {
         self.contracts
             .items
             .iter()
+            .filter(|contract| contract.seller == member && contract.instrument == instrument)
             .map(|contract| self.contract_on_goods(member, instrument, contract))
             .sum()
     }

@@ -1,10 +1,11 @@
 // A desk opens with the rows that can be used.
 ghost use Rattle.std.specs.Prelude.{◌≡◌, IfOk};
 ghost use Rattle.std.specs.List.{AllPass};
-ghost use Rattle.rules.specs.Terms.{good_row, in_force};
+ghost use Rattle.rules.specs.Terms.{admits, good_row, in_force};
 ghost use Rattle.rules.specs.Limits.{trading};
 ghost use Rattle.settling.specs.Fits.{fit_row};
-ghost use Rattle.desk.specs.Views.{admits, desk_of, fresh_desk};
+ghost use Rattle.desk.specs.Numbers.{Distinct};
+ghost use Rattle.desk.specs.Views.{desk_of, fresh_desk};
 
 use crate::desk::Desk;
 use crate::finding::find;
@@ -35,6 +36,7 @@ fn is_admitted(listed: &[Row], row: &Row, top: u64) -> bool
 fn rows_in_force(heap: Global, rows: &[Row], top: u64) -> Result<Vec<Row>, AllocError>
     ensures rows { IfOk result (λ v. v.items ≡ in_force top rows.now) }
     ensures fit { IfOk result (λ v. AllPass fit_row v.items) }
+    ensures distinct { IfOk result (λ v. Distinct (λ r. r.number) v.items) }
 {
     let mut listed: Vec<Row> = Vec::with_capacity(heap, rows.len())?;
     for row in rows {

@@ -2,10 +2,11 @@
 ghost use Rattle.std.specs.Prelude.{◌≡◌, ◌<◌, ◌≤◌, true, [], ◌∷◌, ◌++◌, IfOk, vec_len};
 ghost use Rattle.rules.specs.Effects.{with_orders};
 ghost use Rattle.rules.specs.Limits.{row_of, trading};
+ghost use Rattle.rules.specs.Rulings.{Checked};
 ghost use Rattle.rules.specs.Orders.{is_before, unfilled};
 ghost use Rattle.rules.specs.Terms.{good_order};
 ghost use Rattle.rules.specs.declared.calls.Call.TheVariants.{Cancel};
-ghost use Rattle.desk.specs.Called.{Changes, Checked, DeskCalled, Holds, alone, amount_of, order_checks};
+ghost use Rattle.desk.specs.Called.{Changes, DeskCalled, Holds, alone, amount_of, order_checks};
 ghost use Rattle.charge.specs.Charges.{highest};
 ghost use Rattle.desk.specs.Fits.{fit_order};
 ghost use Rattle.settling.specs.Fits.{fit_row};

@@ -1,11 +1,12 @@
 // Trades of two live orders, and ratings.
 ghost use Rattle.std.specs.Prelude.{◌≡◌, ◌<◌, true, map, IfOk, vec_len, filter};
-ghost use Rattle.rules.specs.Checks.{checks};
+ghost use Rattle.rules.specs.Checks.{checks, rating_checks};
+ghost use Rattle.rules.specs.Rulings.{Checked};
 ghost use Rattle.rules.specs.Effects.{rerated, with_rows};
 ghost use Rattle.rules.specs.Limits.{trading};
 ghost use Rattle.rules.specs.Orders.{contract_of, fills, has_rest, lowered_by, matching};
 ghost use Rattle.rules.specs.declared.calls.Call.TheVariants.{Execute};
-ghost use Rattle.desk.specs.Called.{Changes, Checked, DeskCalled, rating_checks};
+ghost use Rattle.desk.specs.Called.{Changes, DeskCalled};
 ghost use Rattle.settling.specs.Fits.{fit_contract};
 ghost use Rattle.desk.specs.Views.{charged, desk_of, uncharged};
 

@@ -1,8 +1,10 @@
 // Events of the live contracts.
-ghost use Rattle.std.specs.Prelude.{◌≡◌};
+ghost use Rattle.std.specs.Prelude.{◌≡◌, true};
 ghost use Rattle.rules.specs.Effects.{settled, with_contracts};
 ghost use Rattle.rules.specs.Limits.{session};
-ghost use Rattle.desk.specs.Turns.{Turns};
+ghost use Rattle.settling.specs.Fits.{fit_contract};
+ghost use Rattle.settling.specs.Meeting.{Meets, MeetsAny};
+ghost use Rattle.desk.specs.Turns.{today};
 ghost use Rattle.desk.specs.Views.{desk_of};
 
 use crate::desk::Desk;
@@ -12,21 +14,22 @@ use rules::refusals::Refusal;
 use settling::{Circumstances, Occasion, Turn, meet};
 
 impl Desk {
-    /// What an event of a contract comes to, or why it is refused.
+    /// What an event of a contract comes to today, or why it is refused. A contract that no desk can have is refused
+    /// first.
     pub fn turn<R: ChargeRule>(
         &self,
         rule: &R,
-        contract: u64,
+        contract: &Contract,
         occasion: Occasion,
     ) -> Result<Turn, Refusal>
-        ensures { Turns (R.ChargeRule.charge rule.now) (desk_of session self.now) contract occasion result }
+        ensures any { MeetsAny (R.ChargeRule.charge rule.now) (today (desk_of session self.now) contract.now) contract.now occasion result }
+        ensures fitting { fit_contract contract.now ≡ true → Meets (R.ChargeRule.charge rule.now) (today (desk_of session self.now) contract.now) contract.now occasion result }
     {
-        let found = self.contract(contract).ok_or(Refusal::ContractNotLive)?;
         let at = Circumstances {
-            row: self.row_or_none(found.instrument),
+            row: self.row_or_none(contract.instrument),
             day: self.day,
         };
-        meet(&found, rule, &at, occasion)
+        meet(contract, rule, &at, occasion)
     }
 
     /// Brings a contract into the state after its event, or ends it.

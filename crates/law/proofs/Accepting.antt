@@ -10,7 +10,7 @@ use Rattle.rules.specs.declared.calls.Call.{Call}
 use Rattle.rules.specs.Limits.{Ledger}
 use Rattle.rules.specs.Checks.{Check, checks}
 use Rattle.rules.specs.Entries.{entries}
-use Rattle.rules.specs.Rulings.{Capacity, Feed, by_money, by_goods, money_says, goods_says, first_of, keepers_say, first_met, ruling}
+use Rattle.rules.specs.Rulings.{Capacity, Feed, by_money, by_goods, money_says, goods_says, first_said, keepers_say, first_met, ruling}
 use Rattle.law.proofs.Entering.{FitsIf}
 use Rattle.law.proofs.Passing.{AllFalse, Passed, passed}
 
@@ -31,7 +31,7 @@ goods_silent : (r : ℕ) (v : Result (Unit {0}) KeeperFault) → by_goods r v �
 goods_silent r (Ok u) h = refl
 goods_silent r (Err e) h = let z : ◌≡◌ {A = ℕ} 0 1 = cc in absurd (omega arith)
 
-both_silent : (x y : Option Refusal) → first_of x y ≡ None → (x ≡ None) × (y ≡ None)
+both_silent : (x y : Option Refusal) → first_said x y ≡ None → (x ≡ None) × (y ≡ None)
 both_silent None y h = (refl, h)
 both_silent (Some e) y h = let z : ◌≡◌ {A = ℕ} 0 1 = cc in absurd (omega arith)
 

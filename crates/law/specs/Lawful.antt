@@ -1,20 +1,11 @@
 -- What is proved of every run of the ledger. Assumes nothing.
-use Rattle.std.specs.Prelude.{◌≡◌, false, List, [], ◌∷◌, ◌++◌}
+use Rattle.std.specs.Prelude.{List}
 use Rattle.keeper.specs.declared.keepers.Registers as registers
 use Rattle.charge.specs.declared.ChargeRule as rule
 use Rattle.charge.specs.Charges.{Fair}
 use Rattle.rules.specs.declared.rows.Row.{Row}
-use Rattle.rules.specs.Runs.{is_rating, Step, reached, Run}
-use Rattle.rules.specs.History.{accepted}
-use Rattle.rules.specs.Law.{Start, start, opened, Stands, NoWorse}
-
--- what the law of whole runs says of the steps of a run
-pub record Lawful (o : Start) (steps : List Step) : Type 0 where
-  -- at the start and after each step, amounts, limits, endings and payments stand
-  pub always : (before rest : List Step) → before ++ rest ≡ steps → Stands o (accepted before) (reached (opened o) before)
-  -- no step but a rating leaves a free position limit negative and lower than before
-  pub firm : (before : List Step) (s : Step) (rest : List Step) → before ++ s ∷ rest ≡ steps → is_rating s.request ≡ false →
-      NoWorse (reached (opened o) before).ledger (reached (opened o) (before ++ s ∷ [])).ledger
+use Rattle.rules.specs.Runs.{Step, Run}
+use Rattle.rules.specs.Law.{Start, start, opened, Lawful}
 
 -- every run from a start keeps the law
 abbrev pub KeepsLaw : Start → Type 0

@@ -16,7 +16,7 @@ pub fn held<K: Registers>(keeper: &K, register: usize) -> u64
 
 /// Posts an entry, and answers what is then in the register that it names; a fault comes with that register.
 pub fn enter<K: Keeper>(keeper: &mut K, entry: Entry) -> Result<u64, EntryFault>
-    ensures { Tells (K.Registers.meaning keeper.old) entry result (K.Registers.meaning keeper.new) }
+    ensures { Tells K.Registers.conduct (K.Registers.meaning keeper.old) entry result (K.Registers.meaning keeper.new) }
 {
     let register = entry.register();
     keeper

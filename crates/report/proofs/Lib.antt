@@ -1,3 +1,4 @@
 pub mod Listing
 pub mod Picking
 pub mod Reporting
+pub mod Days

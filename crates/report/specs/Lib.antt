@@ -1,4 +1,5 @@
 pub mod Notes
 pub mod Reports
 pub mod Texts
+pub mod Days
 pub mod LineTexts

@@ -4,10 +4,10 @@ use Rattle.std.specs.List.{flat_map}
 use Rattle.fields.specs.Sheets.{lines_of}
 use Rattle.sheet.specs.declared.outcome.Line.{Line}
 use Rattle.sheet.specs.declared.outcome.Line.TheVariants.{Instrument, Call}
-use Rattle.rules.specs.Law.{Kinds, RunLaw, Start}
+use Rattle.rules.specs.Law.{RunLaw, Start}
 use Rattle.rules.specs.declared.rows.Row.{Row}
 use Rattle.rules.specs.Limits.{Ledger, clearing, free_clearing, free_position, known, position}
-use Rattle.rules.specs.Runs.{Told, Point}
+use Rattle.rules.specs.Runs.{Kinds, Told, Point}
 use Rattle.rules.specs.declared.calls.Answer.TheVariants as told
 use Rattle.rules.specs.declared.calls.RequestFault.TheVariants as request
 use Rattle.report.specs.declared.faults.SheetFault.{SheetFault}

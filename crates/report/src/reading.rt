@@ -19,6 +19,7 @@ pub(crate) struct Notes {
 }
 
 /// What a line says; a row is late once the book is open.
+#[inline(always)]
 pub fn note(line: &[u8], opened: bool) -> Result<Line, SheetFault>
     ensures { result ≡ timely opened (read_line line.now) }
 {

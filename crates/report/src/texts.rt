@@ -23,7 +23,8 @@ pub struct LineText {
 impl LineText {
     ghost use Rattle.report.specs.LineTexts.{text_of};
 
-    fn new() -> LineText
+    /// Nothing is written.
+    pub fn new() -> LineText
         ensures text { text_of result ≡ [] }
         ensures start { result.start ≡ 111 }
     {
@@ -50,6 +51,7 @@ impl LineText {
         self.start = write_digits(number, &mut self.bytes, self.start);
     }
 
+    #[inline(always)]
     fn field(&mut self, number: u64)
         requires { 21 ≤ self.old.start }
         ensures text { text_of self.new ≡ field number ++ text_of self.old }
@@ -88,6 +90,16 @@ impl ReportLine {
         ensures { text_of result ≡ shown_line self.now }
     {
         let mut text = LineText::new();
+        self.write_to(&mut text);
+        text
+    }
+
+    /// Writes the line to a text, in place of what is there.
+    // In place: a text that is copied as soon as it is made takes longer.
+    pub fn write_to(&self, text: &mut LineText)
+        ensures { text_of text.new ≡ shown_line self.now }
+    {
+        *text = LineText::new();
         match *self {
             ReportLine::Accepted {
                 line,
@@ -124,6 +136,5 @@ impl ReportLine {
                 text.put(b'M');
             }
         }
-        text
     }
 }

@@ -1,6 +1,5 @@
 -- The law of whole runs. Assumes nothing.
 use Rattle.std.specs.Prelude.{◌≡◌, ℕ, ◌+◌, ◌≤◌, false, List, [], ◌∷◌, ◌++◌, map, pos, ◌≤ℤ◌, ◌<ℤ◌, slice_index}
-use Rattle.std.specs.List.{All}
 use Rattle.keeper.specs.Meaning.{Meaning}
 use Rattle.keeper.specs.declared.keepers.Registers as registers
 use Rattle.charge.specs.declared.ChargeRule as rule
@@ -10,7 +9,7 @@ use Rattle.rules.specs.declared.calls.Request.{Request}
 use Rattle.rules.specs.Terms.{in_force}
 use Rattle.rules.specs.Holds.{payment_to_date}
 use Rattle.rules.specs.Limits.{Ledger, opening, free_position, free_clearing, free_goods}
-use Rattle.rules.specs.Runs.{Told, is_rating, Point, Step, reached, Run}
+use Rattle.rules.specs.Runs.{Kinds, Meant, Told, is_rating, Point, Step, reached, Run}
 use Rattle.rules.specs.History.{Done, accepted, trade_in, row_in, kilograms_in, payments_in, endings, money_brought, money_taken, goods_brought, goods_taken}
 
 -- what a run starts from: rows, the charge rule's top and charge, and what the two keepers mean
@@ -25,13 +24,9 @@ pub record Start : Type 0 where
 abbrev pub start : {M G R : Type 0} → registers.Ghosts M → registers.Ghosts G → rule.Ghosts R → List Row → M → G → R → Start
 start m g r rows money goods charges = record { rows = rows; top = r.top charges; charge = r.charge charges; money = m.meaning money; goods = g.meaning goods }
 
--- which meanings a keeper of money and a keeper of goods can have, one beside the other
-abbrev pub Kinds : Type 1
-Kinds = Meaning → Meaning → Type 0
-
--- those of two types of keepers: what some keeper of each means
+-- the kinds that two types of keepers are
 abbrev pub kinds : {M G : Type 0} → registers.Ghosts M → registers.Ghosts G → Kinds
-kinds {M} {G} m g x y = ((k : M) × (m.meaning k ≡ x)) × ((k : G) × (g.meaning k ≡ y))
+kinds m g = record { money = m.conduct; goods = g.conduct }
 
 -- the opening ledger, with the two keepers
 abbrev pub opened : Start → Point
@@ -60,6 +55,14 @@ pub record Stands (o : Start) (calls : List Done) (p : Point) : Type 0 where
 abbrev pub NoWorse : Ledger → Ledger → Type 0
 NoWorse b b' = (m : ℕ) → free_position b' m <ℤ pos 0 → free_position b m ≤ℤ free_position b' m
 
+-- what the law of whole runs says of the steps of a run
+pub record Lawful (o : Start) (steps : List Step) : Type 0 where
+  -- at the start and after each step, amounts, limits, endings and payments stand
+  pub always : (before rest : List Step) → before ++ rest ≡ steps → Stands o (accepted before) (reached (opened o) before)
+  -- no step but a rating leaves a free position limit negative and lower than before
+  pub firm : (before : List Step) (s : Step) (rest : List Step) → before ++ s ∷ rest ≡ steps → is_rating s.request ≡ false →
+      NoWorse (reached (opened o) before).ledger (reached (opened o) (before ++ s ∷ [])).ledger
+
 -- what is owed of a run: the kinds of its keepers, its start, what was requested and told, and what the book shows at the end
 pub record RunLaw (k : Kinds) (o : Start) (requests : List Request) (told : List Told) (end : Point) : Type 0 where
   -- the steps are the requests, in sequence, with what was told of each
@@ -68,12 +71,9 @@ pub record RunLaw (k : Kinds) (o : Start) (requests : List Request) (told : List
   pub answered : map (λ s. s.told) steps ≡ told
   -- each answer and each reply is the ledger's, fed nothing but the start and, before each request, the keepers' spares and needs
   pub ruled : Run (opened o) steps
-  -- those spares and needs are no free numbers: after each step the two meanings are such as keepers of these kinds can have
-  pub meant : All (λ s. k s.money s.goods) steps
+  -- those spares and needs are what the two keepers come to from the start on, as keepers of their types go on by the ledger's entries
+  pub meant : Meant k (opened o) steps
   -- the steps lead to what the book shows
   pub ended : end ≡ reached (opened o) steps
-  -- at the start and after each step
-  pub always : (before rest : List Step) → before ++ rest ≡ steps → Stands o (accepted before) (reached (opened o) before)
-  -- over each step but a rating
-  pub firm : (before : List Step) (s : Step) (rest : List Step) → before ++ s ∷ rest ≡ steps → is_rating s.request ≡ false →
-      NoWorse (reached (opened o) before).ledger (reached (opened o) (before ++ s ∷ [])).ledger
+  -- and they keep the law
+  pub lawful : Lawful o steps

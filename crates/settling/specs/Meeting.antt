@@ -1,5 +1,5 @@
 -- What a contract does at an event, in its circumstances. Assumes nothing.
-use Rattle.std.specs.Prelude.{◌≡◌, ℕ, ◌-◌, min, not, ◌&&◌, List, ◌∷◌, ℤ, pos, None, Ok, Err, Result}
+use Rattle.std.specs.Prelude.{◌≡◌, ℕ, ◌-◌, min, not, ◌&&◌, List, ◌∷◌, ℤ, pos, None, Result}
 use Rattle.std.specs.Option.{option_map}
 use Rattle.keeper.specs.declared.entries.Entry.{Entry}
 use Rattle.keeper.specs.declared.entries.Entry.TheVariants.{Transfer}
@@ -12,7 +12,7 @@ use Rattle.rules.specs.declared.refusals.Refusal.TheVariants.{BadValue}
 use Rattle.rules.specs.Terms.{position_register}
 use Rattle.rules.specs.Checks.{Check, event_checks}
 use Rattle.rules.specs.Entries.{event_entries, transfer}
-use Rattle.rules.specs.Rulings.{allowed}
+use Rattle.rules.specs.Rulings.{Checked}
 use Rattle.rules.specs.Settling.{event_answer, event_state}
 use Rattle.settling.specs.declared.moves.Move.{Move}
 use Rattle.settling.specs.declared.moves.Turn.{Turn}
@@ -40,34 +40,33 @@ event_of (Funding free) = events.Funding
 event_of (Delivery kg) = events.Delivery kg
 event_of (Default amount) = events.Default
 
-abbrev pub free_of : Occasion → ℤ
-free_of (Funding free) = free
-free_of (Delivery kg) = pos 0
-free_of (Default amount) = pos 0
+abbrev pub free_seen : Occasion → ℤ
+free_seen (Funding free) = free
+free_seen (Delivery kg) = pos 0
+free_seen (Default amount) = pos 0
 
-abbrev pub amount_of : Occasion → ℕ
-amount_of (Funding free) = 0
-amount_of (Delivery kg) = 0
-amount_of (Default amount) = amount
+abbrev pub amount_seen : Occasion → ℕ
+amount_seen (Funding free) = 0
+amount_seen (Delivery kg) = 0
+amount_seen (Default amount) = amount
 
 -- the checks of an event that comes about so
 abbrev pub occasion_checks : Row → ℕ → Contract → Occasion → List Check
-occasion_checks r day k o = event_checks r day (free_of o) k (event_of o)
+occasion_checks r day k o = event_checks r day (free_seen o) k (event_of o)
 
 abbrev pub TurnedAt : Charge → Row → Contract → Occasion → Turn → Type 0
-TurnedAt charge r k o t = Turned charge r (amount_of o) k (event_of o) t
+TurnedAt charge r k o t = Turned charge r (amount_seen o) k (event_of o) t
 
+-- a contract meets it: a turn by the rules, or the first check that is met
 abbrev pub Meets : Charge → Circumstances → Contract → Occasion → Result Turn Refusal → Type 0
-Meets charge at k o (Ok t) = (allowed (occasion_checks at.row at.day k o) ≡ Ok tt) × TurnedAt charge at.row k o t
-Meets charge at k o (Err d) = allowed (occasion_checks at.row at.day k o) ≡ Err d
+Meets charge at k o r = Checked (occasion_checks at.row at.day k o) (TurnedAt charge at.row k o) r
 
 -- the same of any contract and row: what is outside its limits is refused first
 abbrev pub limit_checks : Circumstances → Contract → Occasion → List Check
 limit_checks at k o = (not (fit_contract k && fit_row at.row), BadValue) ∷ occasion_checks at.row at.day k o
 
 abbrev pub MeetsAny : Charge → Circumstances → Contract → Occasion → Result Turn Refusal → Type 0
-MeetsAny charge at k o (Ok t) = (allowed (limit_checks at k o) ≡ Ok tt) × TurnedAt charge at.row k o t
-MeetsAny charge at k o (Err d) = allowed (limit_checks at k o) ≡ Err d
+MeetsAny charge at k o r = Checked (limit_checks at k o) (TurnedAt charge at.row k o) r
 
 -- a turn that ends a contract with a penalty
 pub record Failed (k : Contract) (penalty amount failing injured : ℕ) (t : Turn) : Type 0 where

@@ -117,6 +117,7 @@ impl Meeting<'_> {
 
     /// A funded contract is delivered: at most the kilograms open are counted, and paid for as all so far less what
     /// was paid before.
+    #[inline(always)]
     fn delivered(&self, kilograms: u64, payments: u64, reported: u64) -> Result<Turn, Refusal>
         requires { self.now.contract.now.state ≡ Funded kilograms payments }
         ensures { Meets (λ _ _ _. 0) self.now.at.now self.now.contract.now (Delivery reported) result }

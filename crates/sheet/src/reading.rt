@@ -14,6 +14,7 @@ use fields::{LineFault, cut};
 const MOST_BYTES: usize = 120;
 
 /// What a verb and the fields after it read as.
+#[inline(always)]
 fn by_verb(verb: &[u8], rest: Option<&[u8]>) -> Result<Line, LineFault>
     ensures { result ≡ by_verb (verb_in verb.now) (parts_after rest.entry) }
 {
@@ -38,6 +39,7 @@ fn by_verb(verb: &[u8], rest: Option<&[u8]>) -> Result<Line, LineFault>
 }
 
 /// What a line reads as, without its feed.
+#[inline(always)]
 pub fn read_line(line: &[u8]) -> Result<Line, LineFault>
     ensures value { result ≡ read_line line.now }
     ensures reading { Reading line.now result }

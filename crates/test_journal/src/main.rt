@@ -3,9 +3,10 @@
 
 use book::House;
 use charge::PercentRule;
-use console::{print_report, read_bytes};
+use console::{print_report, read_sheet};
 use keeper::{Entry, JournalKeeper};
 use report::run_sheet;
+use std::io::{BufWriter, Write};
 
 const UNWRITTEN: Entry = Entry::Credit {
     receiver: 0,
@@ -13,7 +14,7 @@ const UNWRITTEN: Entry = Entry::Credit {
 };
 
 fn main(rt: HostRuntime) -> anyhow::Result<()> {
-    let sheet = read_bytes(&rt)?;
+    let sheet = read_sheet(rt.alloc(), rt.stdin())?;
     let mut money = [UNWRITTEN; 8];
     let mut goods = [UNWRITTEN; 3];
     let house = House {
@@ -22,5 +23,8 @@ fn main(rt: HostRuntime) -> anyhow::Result<()> {
         rule: PercentRule,
     };
     let report = run_sheet(rt.alloc(), sheet.as_slice(), house)?;
-    print_report(&rt, report.as_slice())
+    let mut out = BufWriter::new(rt.alloc(), rt.stdout())?;
+    print_report(&mut out, report.as_slice())?;
+    out.flush()?;
+    Ok(())
 }

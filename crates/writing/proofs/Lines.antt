@@ -4,7 +4,7 @@ use Rattle.std.specs.List.{flat_map}
 use Rattle.std.proofs.lemmas.List.{append-nil, append_assoc, get_or_append_left, get_or_push, flat_map_more, length-append}
 use Rattle.sheet.specs.declared.outcome.Line.{Line}
 use Rattle.sheet.specs.declared.outcome.Line.TheVariants.{Instrument, Call}
-use Rattle.rules.specs.Law.{Kinds}
+use Rattle.rules.specs.Runs.{Kinds}
 use Rattle.rules.specs.Runs.{Told, Point}
 use Rattle.rules.specs.declared.calls.Request.TheVariants.{Make}
 use Rattle.rules.specs.declared.calls.RequestFault.TheVariants.{Misplaced}
@@ -61,15 +61,15 @@ module _ (k : Kinds) (p q q' : Point) (notes : List Note) (told : List Told) (o 
         reported = lines_more 1 0 notes n told [] told_long ∙ ap (λ x. lines_report 1 0 notes told ++ line_of (1 + length notes) x ∷ []) (is (get_or (told ++ []) (length told) (Err Misplaced)));
       }
 
-  -- any line; the keepers mean after it what keepers of their kinds can
-  pub noted : (n : Note) → LineRun q n o q' → k q'.money q'.goods → Noted k p notes told n o q'
-  noted (Ok (Instrument r)) run means = quiet (Ok (Instrument r)) refl (λ t. sym run.0) run.1
-  noted (Err f) run means = quiet (Err f) refl (λ t. sym run.0) run.1
-  noted (Ok (Call c)) run means =
+  -- any line
+  pub noted : (n : Note) → LineRun k q n o q' → Noted k p notes told n o q'
+  noted (Ok (Instrument r)) run = quiet (Ok (Instrument r)) refl (λ t. sym run.0) run.1
+  noted (Err f) run = quiet (Err f) refl (λ t. sym run.0) run.1
+  noted (Ok (Call c)) run =
       let t = run.0 in
       record {
         told' = told ++ t ∷ [];
-        ran = subst (λ rs. Ran k p rs (told ++ t ∷ []) q') (flat_map_more request_in [] notes (Ok (Call c))) (ran_more k p (flat_map request_in notes) told q ran (Make c) t q' run.2 means);
+        ran = subst (λ rs. Ran k p rs (told ++ t ∷ []) q') (flat_map_more request_in [] notes (Ok (Call c))) (ran_more k p (flat_map request_in notes) told q ran (Make c) t q' run.2);
         reported = lines_more 1 0 notes (Ok (Call c)) told (t ∷ []) told_long
             ∙ ap (λ x. lines_report 1 0 notes told ++ line_of (1 + length notes) x ∷ []) (ap answers (get_or_push told t (Err Misplaced) (length told) refl) ∙ sym run.1);
       }

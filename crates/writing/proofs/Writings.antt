@@ -8,7 +8,8 @@ use Rattle.fields.specs.Sheets.{lines_of}
 use Rattle.sheet.specs.declared.outcome.Line.{Line}
 use Rattle.sheet.specs.declared.outcome.Line.TheVariants.{Instrument, Call}
 use Rattle.sheet.specs.Lines.{read_line}
-use Rattle.rules.specs.Law.{Kinds, Start, opened}
+use Rattle.rules.specs.Law.{Start, opened}
+use Rattle.rules.specs.Runs.{Kinds}
 use Rattle.rules.specs.Limits.{Ledger}
 use Rattle.rules.specs.Runs.{Told, Point}
 use Rattle.rules.specs.declared.rows.Row.{Row}
@@ -79,10 +80,10 @@ sofar_none k p bytes before left number all none = record {
 
 module _ (k : Kinds) (p : Point) (bytes before : List ℕ) (opened : Bool) (left : List (List ℕ)) (number : ℕ) (text : List ℕ) (q : Point) (so : Sofar k p bytes before opened left number text q) where
   -- x is the next line
-  pub sofar_more : (x : List ℕ) (after : List (List ℕ)) → left ≡ x ∷ after → (n : Note) → n ≡ timely opened (read_line x) → (o : Result (ℕ × ℕ) SheetFault) (q' : Point) → LineRun q n o q' → k q'.money q'.goods
+  pub sofar_more : (x : List ℕ) (after : List (List ℕ)) → left ≡ x ∷ after → (n : Note) → n ≡ timely opened (read_line x) → (o : Result (ℕ × ℕ) SheetFault) (q' : Point) → LineRun k q n o q'
       → (i : ℕ) → i ≡ number → (text' : List ℕ) → Adds text (line_text (line_of (i + 1) o)) text' → (opened' : Bool) → opened' ≡ opens opened x → (number' : ℕ) → number' ≡ number + 1 → Sofar k p bytes before opened' after number' text' q'
-  sofar_more x after next n is o q' run means i at text' adds opened' moves number' step =
-      let on : Noted k p so.notes so.told n o q' = noted k p q q' so.notes so.told o so.ran n run means in
+  sofar_more x after next n is o q' run i at text' adds opened' moves number' step =
+      let on : Noted k p so.notes so.told n o q' = noted k p q q' so.notes so.told o so.ran n run in
       let line : i + 1 ≡ 1 + length so.notes = omega (arith, at, so.counted) in
       let l = line_of (1 + length so.notes) o in
       record {

@@ -1,28 +1,34 @@
 // Runs a whole day sheet and writes its report.
-ghost use Rattle.std.specs.Prelude.{◌≡◌, ◌≤◌, false, length, string_bytes, IfOk, OnOk};
+ghost use Rattle.std.specs.Prelude.{◌≡◌, ◌≤◌, false, length, string_bytes, IfOk, MatchOption, OnOk, Ok};
 ghost use Rattle.fields.specs.Sheets.{lines_of};
 ghost use Rattle.report.specs.Texts.{line_text, report_text};
 ghost use Rattle.report.specs.Reports.{ReportedText};
 ghost use Rattle.rules.specs.Law.{kinds};
 ghost use Rattle.book.specs.Houses.{start_of};
 ghost use Rattle.report.specs.Notes.{opened_after};
+ghost use Rattle.book.specs.Taking.{ledger};
+ghost use Rattle.section.specs.Steps.{closing};
+ghost use Rattle.sheet.specs.declared.outcome.Line.TheVariants as lines;
 ghost use Rattle.writing.specs.Writings.{Adds, LineRun, LinesRun};
 
 use crate::rows::rows_of;
 use book::{House, Shows, TradingBook};
 use charge::ChargeRule;
 use keeper::Keeper;
-use report::{MOST_BYTES, ReportLine, SheetFault, answers, member_lines, note, opens, report_line};
-use rules::calls::{Request, Told};
+use report::{
+    LineText, MOST_BYTES, ReportLine, SheetFault, answers, member_lines, note, opens, report_line,
+};
 use section::SectionBook;
 use sheet::{Line, Lines};
 use std::alloc::{AllocError, Global};
 
-/// Adds a line of a report to a text, with its feed. By its `text`: `writeln!` takes 60 instructions more.
+/// Adds a line of a report to a text, with its feed: `writeln!` takes 60 instructions more.
 fn write_line(text: &mut String, line: &ReportLine) -> Result<(), AllocError>
     ensures { OnOk result (Adds (string_bytes text.old) (line_text line.now) (string_bytes text.new)) }
 {
-    text.push_str(line.text().as_str())?;
+    let mut bytes = LineText::new();
+    line.write_to(&mut bytes);
+    text.push_str(bytes.as_str())?;
     text.push('\n')
 }
 
@@ -36,20 +42,19 @@ fn write_lines(text: &mut String, lines: &[ReportLine]) -> Result<(), AllocError
     Ok(())
 }
 
-/// What becomes of a line, and the book after it: a row answers 0 and 0, a call what the book tells of it.
+/// What becomes of a line: a row answers 0 and 0, a call what the book tells of it. None, and nothing has changed,
+/// where it is the call that ends this half of the day.
+// In place: a book that is moved from line to line takes longer.
 fn run_line<M: Keeper, G: Keeper, R: ChargeRule>(
-    book: SectionBook<M, G, R>,
+    book: &mut SectionBook<M, G, R>,
     note: Result<Line, SheetFault>,
-) -> (Result<(u64, u64), SheetFault>, SectionBook<M, G, R>)
-    ensures { LineRun (⟦<SectionBook<M, G, R> as Shows>⟧.point book) note result.0 (⟦<SectionBook<M, G, R> as Shows>⟧.point result.1) }
+) -> Option<Result<(u64, u64), SheetFault>>
+    ensures { MatchOption result ((book.new ≡ book.old) × (note ≡ Ok (lines.Call (closing (ledger ⟦<SectionBook<M, G, R> as Shows>⟧ book.old).desk.half)))) (λ o. LineRun ⟦<SectionBook<M, G, R> as Shows>⟧.kinds (⟦<SectionBook<M, G, R> as Shows>⟧.point book.old) note o (⟦<SectionBook<M, G, R> as Shows>⟧.point book.new)) }
 {
     match note {
-        Ok(Line::Call(call)) => {
-            let (told, next) = book.take(Request::Make(call));
-            (answers(told), next)
-        }
-        Ok(Line::Instrument(_)) => (Ok((0, 0)), book),
-        Err(fault) => (Err(fault), book),
+        Ok(Line::Call(call)) => book.take_in_place(call).map(|told| answers(told)),
+        Ok(Line::Instrument(_)) => Some(Ok((0, 0))),
+        Err(fault) => Some(Err(fault)),
     }
 }
 
@@ -66,8 +71,14 @@ fn run_lines<M: Keeper + Drop, G: Keeper + Drop, R: ChargeRule + Drop>(
     let mut book = book;
     let mut opened = false;
     for (i, line) in Lines::of(sheet).enumerate() {
-        let (outcome, next) = run_line(book, note(line, opened));
-        book = next;
+        let outcome = match run_line(&mut book, note(line, opened)) {
+            Some(outcome) => outcome,
+            None => {
+                let (told, next) = book.close();
+                book = next;
+                answers(told)
+            }
+        };
         write_line(text, &report_line(i as u64 + 1, outcome))?;
         opened = opens(opened, line);
     }

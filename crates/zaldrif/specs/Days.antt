@@ -1,22 +1,9 @@
 -- A day that is run over the memory of a caller. Assumes nothing.
-use Rattle.std.specs.Prelude.{◌≡◌, ℕ, ◌<◌, ◌≤◌, min, ◌⊎◌, List, ◌++◌, length, drop, replicate}
-use Rattle.keeper.specs.Meaning.{Meaning, tabled}
-use Rattle.charge.specs.Charges.{Charge}
+use Rattle.std.specs.Prelude.{◌≡◌, ℕ, ◌<◌, ◌≤◌, ◌⊎◌, List, ◌++◌, length, drop}
 use Rattle.rules.specs.declared.rows.Row.{Row}
-use Rattle.rules.specs.Law.{Kinds, Start}
+use Rattle.rules.specs.Law.{Start}
+use Rattle.report.specs.Days.{tables}
 use Rattle.report.specs.Reports.{ReportedText}
-
--- a table of empty registers: one for each place, 1,024 at most
-abbrev pub emptied : ℕ → Meaning
-emptied places = tabled (replicate {A = ℕ} (min places 1024) 0)
-
--- table keepers of money and of goods: each has the amounts of its table, and needs nothing
-abbrev pub tables : Kinds
-tables x y = ((xs : List ℕ) × (x ≡ tabled xs)) × ((ys : List ℕ) × (y ≡ tabled ys))
-
--- a day starts from a sheet's rows, a charge rule, and so many places for money and for goods
-abbrev pub day_start : ℕ → Charge → ℕ → ℕ → List Row → Start
-day_start top charge money goods rows = record { rows = rows; top = top; charge = charge; money = emptied money; goods = emptied goods }
 
 -- told the length of the text, which stands at the front of the buffer if it fits there; else the buffer is as it was
 pub record DayTold (from : List Row → Start) (sheet before : List ℕ) (told : ℕ) (after : List ℕ) : Type 0 where

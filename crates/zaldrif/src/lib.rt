@@ -4,7 +4,8 @@
 ghost use Rattle.std.specs.Prelude.{◌≡◌, ◌≤◌, ◌++◌, length, drop, string_bytes, IfOk};
 ghost use Rattle.charge.specs.Charges.{flat, flat_top, percent, percent_top};
 ghost use Rattle.report.specs.Reports.{ReportedText};
-ghost use Rattle.zaldrif.specs.Days.{DayRun, day_start, tables};
+ghost use Rattle.report.specs.Days.{day_start, tables};
+ghost use Rattle.zaldrif.specs.Days.{DayRun};
 
 use book::House;
 use charge::{ChargeRule, FlatRule, PercentRule};

@@ -9,7 +9,7 @@ use Rattle.rules.specs.Runs.{Point}
 use Rattle.law.proofs.Whole.{lawful_from}
 use Rattle.section.specs.Steps.{Ran, shows}
 use Rattle.book.specs.Views.{point_of}
-use Rattle.section.proofs.Running.{ran_lawful, ran_more, ran_none, shows_meant}
+use Rattle.section.proofs.Running.{ran_lawful, ran_more, ran_none}
 use Rattle.section.proofs.runs.replay.Goals as goal
 
 pub loop-request-init : goal.loop-request-init
@@ -27,7 +27,7 @@ loop-request-preserved g c =
     let i = c.loop-request.request-index in
     let pushed = c.push_reserved.ensures in
     let taken = c.take-answer.result in
-    let more = ran_more (kinds m k) _ _ _ (view c.loop-request.book) inv.2 _ taken.0 (view taken.1) c.take-answer.ensures (shows_meant m k r taken.1) in (
+    let more = ran_more (kinds m k) _ _ _ (view c.loop-request.book) inv.2 _ taken.0 (view taken.1) c.take-answer.ensures in (
       omega (arith, pushed.len, inv.0),
       omega (arith, pushed.capacity, inv.1),
       rw (take_more c.args.requests.now i (Make (Deposit 0 Position 0)) c.loop-request-test.true, pushed.items) more,

@@ -7,7 +7,7 @@ pub returns-then-line-gt-MOST_BYTES-clause-exact : goal.returns-then-line-gt-MOS
 returns-then-line-gt-MOST_BYTES-clause-exact c = reads_exactly c.args.line.now (Err LongLine) (search rules)
 
 pub returns-clause-reading : goal.returns-clause-reading
-returns-clause-reading c = reading c.args.line.now c.by_verb.result (search rules)
+returns-clause-reading c = reading c.args.line.now _ (search rules)
 
 pub returns-clause-exact : goal.returns-clause-exact
-returns-clause-exact c = reads_exactly c.args.line.now c.by_verb.result (search rules)
+returns-clause-exact c = reads_exactly c.args.line.now _ (search rules)

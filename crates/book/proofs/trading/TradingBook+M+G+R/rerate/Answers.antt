@@ -1,3 +1,4 @@
+use Rattle.rules.specs.Law.{kinds}
 use Rattle.rules.specs.Limits.{trading}
 use Rattle.desk.specs.Views.{desk_of}
 use Rattle.book.specs.Views.{point_of}
@@ -8,4 +9,4 @@ pub returns : goal.returns
 returns g c =
     let a = c.args in
     let met = c.in_ok-rerate.ensures in
-    rated (point_of trading g.M.Registers g.G.Registers g.R.ChargeRule a.self.now) a.instrument a.rate (desk_of trading c.rerate.new.self) met.0 met.1 c.short_members.result c.short_members.ensures
+    rated (kinds g.M.Registers g.G.Registers) (point_of trading g.M.Registers g.G.Registers g.R.ChargeRule a.self.now) a.instrument a.rate (desk_of trading c.rerate.new.self) met.0 met.1 c.short_members.result c.short_members.ensures

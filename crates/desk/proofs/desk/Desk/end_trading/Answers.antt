@@ -30,8 +30,11 @@ invariant_of-self c =
         (
           search rules,
           (
-            fit_kept fit_order (goes_on d.day) orders c.retain.new.self.items kept d.sized,
-            (search rules, (rising_kept (λ o. o.order.number) (goes_on d.day) orders c.retain.new.self.items d.orders.last d.orders.last kept refl d.orders_rise, (search rules, tt))),
+            search rules,
+            (
+              fit_kept fit_order (goes_on d.day) orders c.retain.new.self.items kept d.sized,
+              (search rules, (rising_kept (λ o. o.order.number) (goes_on d.day) orders c.retain.new.self.items d.orders.last d.orders.last kept refl d.orders_rise, (search rules, tt))),
+            ),
           ),
         ),
       ),

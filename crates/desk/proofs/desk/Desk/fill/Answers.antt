@@ -23,8 +23,11 @@ invariant_of-self c =
         (
           search rules,
           (
-            fit_kept fit_order has_rest (map (lowered_by t) orders) c.retain_mut.new.self.items filled fit,
-            (search rules, (rising_kept (λ o. o.order.number) has_rest (map (lowered_by t) orders) c.retain_mut.new.self.items d.orders.last d.orders.last filled refl rise, (search rules, tt))),
+            search rules,
+            (
+              fit_kept fit_order has_rest (map (lowered_by t) orders) c.retain_mut.new.self.items filled fit,
+              (search rules, (rising_kept (λ o. o.order.number) has_rest (map (lowered_by t) orders) c.retain_mut.new.self.items d.orders.last d.orders.last filled refl rise, (search rules, tt))),
+            ),
           ),
         ),
       ),

@@ -1,0 +1,10 @@
+// Each field of each verb out of its form, and each verb with a field too few and too many.
+#![tactic(auto)]
+
+use console::run_day;
+use std::io::BufWriter;
+
+fn main(rt: HostRuntime) -> anyhow::Result<()> {
+    let mut out = BufWriter::new(rt.alloc(), rt.stdout())?;
+    run_day(rt.alloc(), rt.stdin(), &mut out)
+}

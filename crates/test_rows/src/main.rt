@@ -1,0 +1,10 @@
+// A sheet that never opens the book: rows, and lines that name one and are refused.
+#![tactic(auto)]
+
+use console::run_day;
+use std::io::BufWriter;
+
+fn main(rt: HostRuntime) -> anyhow::Result<()> {
+    let mut out = BufWriter::new(rt.alloc(), rt.stdout())?;
+    run_day(rt.alloc(), rt.stdin(), &mut out)
+}
