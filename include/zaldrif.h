@@ -13,7 +13,10 @@
 extern "C" {
 #endif
 
-/* Returned where memory was wanting. No report has this length. */
+/*
+ * Returned where memory was wanting. No report has this length. A run takes memory by itself for rows,
+ * orders, contracts and the text of the report, and gives it back before it returns.
+ */
 #define ZALDRIF_NO_MEMORY UINT64_MAX
 
 /*
