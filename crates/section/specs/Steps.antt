@@ -9,6 +9,7 @@ use Rattle.rules.specs.Limits.{Half, session, trading}
 use Rattle.rules.specs.Runs.{Kinds, KeepersGoOn, Meant, Told, Point, Posted, Run, Step, feed, made, next, outcome, reached}
 use Rattle.section.specs.declared.section_book.SectionBook.{SectionBook}
 use Rattle.section.specs.declared.section_book.SectionBook.TheVariants.{Trading, Session}
+use Rattle.book.specs.declared.house.House.{House}
 use Rattle.book.specs.declared.shows.Shows as book_shows
 use Rattle.book.specs.Views.{point_of}
 
@@ -16,6 +17,11 @@ use Rattle.book.specs.Views.{point_of}
 abbrev pub shows : {M G R : Type 0} → registers.Ghosts M → registers.Ghosts G → rule.Ghosts R → SectionBook M G R → Point
 shows m g r (Trading b) = point_of trading m g r b
 shows m g r (Session b) = point_of session m g r b
+
+-- what a book stands on, in whichever half it is
+abbrev pub house_of : {M G R : Type 0} → SectionBook M G R → House M G R
+house_of (Trading b) = b.house
+house_of (Session b) = b.house
 
 -- the call that ends a half of the day
 abbrev pub closing : Half → Call

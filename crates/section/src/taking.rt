@@ -4,7 +4,7 @@ ghost use Rattle.rules.specs.declared.calls.Request.TheVariants.{Make};
 ghost use Rattle.rules.specs.Questions.{reply};
 ghost use Rattle.rules.specs.Runs.{replied_as};
 ghost use Rattle.book.specs.Taking.{ledger};
-ghost use Rattle.section.specs.Steps.{Steps, closing};
+ghost use Rattle.section.specs.Steps.{Steps, closing, house_of};
 
 use crate::calling::{settle, trade};
 use crate::section_book::SectionBook;
@@ -34,7 +34,7 @@ impl<M: Keeper, G: Keeper, R: ChargeRule> SectionBook<M, G, R> {
 
     /// Gives back the keepers and the rule, whatever half it is.
     pub fn into_house(self) -> House<M, G, R>
-        ensures { (M.Registers.meaning result.money ≡ (⟦<Self as Shows>⟧.point self).money) × (G.Registers.meaning result.goods ≡ (⟦<Self as Shows>⟧.point self).goods) }
+        ensures { result ≡ house_of self }
     {
         match self {
             SectionBook::Trading(book) => book.into_house(),
