@@ -30,10 +30,12 @@ extern "C" {
  *                       is at place 16m + i
  *   report, report_len  the buffer for the report
  *
- * Of money and of goods at most the first 1,024 places are used. They are set to 0 at the start, so
- * that what was in them before has no effect; later places are left alone. Members 0 to 63 are
- * known as far as all their registers are there: 128 places of money and 1,024 of goods make all 64
- * known, fewer places fewer members.
+ * Of money and of goods at most the first 1,024 places are used, one for each register. A run sets
+ * them to 0 at its start, so that what was in them before has no effect, and leaves in them what the
+ * registers hold at the end of the sheet. Later places are left alone. A sheet of more than 65,536
+ * bytes, and want of memory, leave all places as they were. Members 0 to 63 are known as far as all
+ * their registers are there: 128 places of money and 1,024 of goods make all 64 known, fewer places
+ * fewer members.
  *
  * Returns the length of the report in bytes:
  *
@@ -41,7 +43,7 @@ extern "C" {
  *                       byte after it; the rest of the buffer is untouched
  *   more                nothing of the buffer is touched. Call again with a buffer of this length:
  *                       the same sheet gives the same report
- *   ZALDRIF_NO_MEMORY   memory was wanting; nothing of the buffer is touched
+ *   ZALDRIF_NO_MEMORY   memory was wanting; nothing of money, goods and the buffer is touched
  *
  * All pointers must be valid for their lengths and not null, even where a length is 0, and the four
  * areas must not overlap.

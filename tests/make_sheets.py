@@ -1,8 +1,10 @@
 #!/usr/bin/env python3
-"""Writes the test sheets and their expected outputs into tests/sheets.
+"""Writes the test sheets, and what the programs must print for them.
 
-Where a line stands with an answer, that answer was worked out by hand and the
-model must agree with it; elsewhere the model alone gives the expected output.
+The sheets go to crates/test_sheets/data, their reports to its stdout, and the
+sample to crates/daysheet too. Where a line stands with an answer, that answer
+was worked out by hand and the model must agree with it; elsewhere the model
+alone gives the expected output.
 """
 
 import pathlib
@@ -10,7 +12,9 @@ import random
 
 import model
 
-SHEETS = pathlib.Path(__file__).resolve().parent / "sheets"
+CRATES = pathlib.Path(__file__).resolve().parent.parent / "crates"
+PROGRAM = CRATES / "daysheet"
+SHEETS = CRATES / "test_sheets"
 
 
 class Sheet:
@@ -44,14 +48,25 @@ class Sheet:
         return b"\n".join(self.lines) + (b"\n" if last_feed else b"")
 
 
-def expected(sheet, journal=None):
-    money, goods = model.make_keepers(journal)
+class Reports:
+    """What the test program prints: days over tables, and then days over journals."""
+
+    def __init__(self):
+        self.tables, self.journals = [], []
+
+    def text(self):
+        return "".join(f"== {name}\n{out}" for name, out in self.tables + self.journals)
+
+
+REPORTS = Reports()
+
+
+def report(sheet, money, goods):
     return "".join(line + "\n" for line in model.run_sheet(sheet, money, goods))
 
 
-def write(name, text, journal=None, sheet=None, members=None):
-    """Writes NAME.txt and NAME.out after the answers known by hand agree."""
-    out = expected(text, journal)
+def agree(name, sheet, members, out):
+    """Stops unless the answers and the member lines known by hand are the model's."""
     lines = out.splitlines()
     for number, answer in (sheet.known if sheet else {}).items():
         want = f"{number},{answer}"
@@ -62,12 +77,34 @@ def write(name, text, journal=None, sheet=None, members=None):
         tail = [line for line in lines if line.startswith("M,")]
         if tail != members.split():
             raise SystemExit(f"{name}: members by hand {members.split()}, model {tail}")
-    (SHEETS / f"{name}.txt").write_bytes(text)
-    (SHEETS / f"{name}.out").write_text(out)
-    print(f"{name}: {len(text)} bytes, {out.count(chr(10))} lines out")
+
+
+def write(name, text, sheet=None, members=None):
+    """A day over tables."""
+    out = report(text, *model.make_keepers(None))
+    agree(name, sheet, members, out)
+    (SHEETS / "data" / f"{name}.txt").write_bytes(text)
+    REPORTS.tables.append((name, out))
+    return out
+
+
+def write_journals(name, text, places, sheet, members, entries):
+    """A day over journals of so many places, and then every place of both."""
+    money, goods = model.make_keepers(places)
+    out = report(text, money, goods)
+    agree(name, sheet, members, out)
+    lists = [f"{keeper} {entry}" for keeper, journal in (("money", money), ("goods", goods))
+             for entry in journal.list()]
+    if lists != entries.strip("\n").split("\n"):
+        raise SystemExit(f"{name}: entries by hand {entries}, model {lists}")
+    (SHEETS / "data" / f"{name}.txt").write_bytes(text)
+    REPORTS.journals.append((name, out + "".join(line + "\n" for line in lists)))
 
 
 # --- sample: every answer by hand ---------------------------------------------
+
+SAMPLE_PLACES = (6, 2)
+
 
 def sample():
     sheet = Sheet().table("""
@@ -83,9 +120,24 @@ EOT -> A,0,0
 FND,1 -> A,1010,0
 DLV,1,30000 -> A,30000,505
 """)
-    write("sample", sheet.text(), sheet=sheet, members="""
+    members = """
 M,1,102,1515,51,1010
 M,2,200,505,100,505
+"""
+    text = sheet.text()
+    out = report(text, *model.make_keepers(None))
+    agree("sample", sheet, members, out)
+    (PROGRAM / "stdin").write_bytes(text)
+    (PROGRAM / "stdout").write_text(out)
+    write_journals("sample", text, SAMPLE_PLACES, sheet, members, """
+money Credit { receiver: 2, amount: 102 }
+money Credit { receiver: 4, amount: 200 }
+money Credit { receiver: 3, amount: 2020 }
+money Transfer { giver: 3, receiver: 5, amount: 505 }
+money Credit { receiver: 0, amount: 0 }
+money Credit { receiver: 0, amount: 0 }
+goods Credit { receiver: 0, amount: 0 }
+goods Credit { receiver: 0, amount: 0 }
 """)
 
 
@@ -1014,15 +1066,34 @@ CXL,4 -> A,2,0
 
 def journal():
     sheet = Sheet().table(JOURNAL)
-    write("journal", sheet.text(), JOURNAL_PLACES, sheet, """
+    write_journals("journal", sheet.text(), JOURNAL_PLACES, sheet, """
 M,1,1000,4501,1000,3001
 M,2,500,500,500,500
 M,3,0,7,0,7
+""", """
+money Credit { receiver: 8, amount: 1000000000000000 }
+money Debit { giver: 8, amount: 1000000000000000 }
+money Credit { receiver: 2, amount: 1000 }
+money Credit { receiver: 3, amount: 5000 }
+money Credit { receiver: 4, amount: 500 }
+money Transfer { giver: 3, receiver: 5, amount: 500 }
+money Credit { receiver: 7, amount: 7 }
+money Credit { receiver: 3, amount: 1 }
+goods Credit { receiver: 32, amount: 2000 }
+goods Transfer { giver: 32, receiver: 16, amount: 500 }
+goods Credit { receiver: 32, amount: 1 }
 """)
     sheet = Sheet().table(JOURNAL_MONEY_FIRST)
-    write("journal-money-first", sheet.text(), SHORT_PLACES, sheet, """
+    write_journals("journal-money-first", sheet.text(), SHORT_PLACES, sheet, """
 M,1,0,10,0,0
 M,2,1,0,1,0
+""", """
+money Credit { receiver: 3, amount: 10 }
+money Credit { receiver: 4, amount: 1 }
+goods Credit { receiver: 32, amount: 5000 }
+goods Transfer { giver: 32, receiver: 16, amount: 199 }
+goods Debit { giver: 16, amount: 199 }
+goods Credit { receiver: 16, amount: 1 }
 """)
 
 
@@ -1124,6 +1195,7 @@ def fields():
 def main():
     for build in (sample, accounts, opening, exchange, settlement, journal, sizes, rows_alone, fields, garbage):
         build()
+    (SHEETS / "stdout").write_text(REPORTS.text())
 
 
 if __name__ == "__main__":

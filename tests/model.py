@@ -9,10 +9,9 @@ down a second time, in the simplest way, so that the two can be compared.
 import argparse
 import sys
 from dataclasses import dataclass
-from typing import Optional
+from typing import Callable, Optional
 
 LIMIT = 10**15          # largest amount of one entry, and of a keeper's sum
-TOP_RATE = 10_000       # percent rule: rates are ten-thousandths
 TOP_PRICE = 10**9
 TOP_LOTS = 10_000
 TOP_DELIVERY = 10**9    # kilograms in one delivery report
@@ -55,6 +54,18 @@ class Entry:
     def named_register(self):
         """The register shown with a refusal: the receiver if there is one."""
         return self.giver if self.receiver is None else self.receiver
+
+    def __str__(self):
+        """As the program's own type is printed."""
+        if self.giver is None:
+            return f"Credit {{ receiver: {self.receiver}, amount: {self.amount} }}"
+        if self.receiver is None:
+            return f"Debit {{ giver: {self.giver}, amount: {self.amount} }}"
+        return f"Transfer {{ giver: {self.giver}, receiver: {self.receiver}, amount: {self.amount} }}"
+
+
+# What a test has in each place of a list that it lends to a journal.
+UNWRITTEN = Entry(None, 0, 0)
 
 
 class Keeper:
@@ -137,15 +148,29 @@ class JournalKeeper(Keeper):
     def write(self, entry):
         self.written.append(entry)
 
+    def list(self):
+        """Every place of the list that was lent."""
+        return self.written + [UNWRITTEN] * self.spare()
+
 
 # --- charge ------------------------------------------------------------------
 
-def percent_charge(rate, price, lots):
-    """One lot's charge is rounded up, then taken once for each lot."""
-    if rate > TOP_RATE or not 1 <= price <= TOP_PRICE or lots > TOP_LOTS:
-        return 0
-    one_lot = -(-price * rate // 10_000)
-    return one_lot * lots
+@dataclass(frozen=True)
+class Rule:
+    """A top rate, and what one lot is charged at a rate and a price."""
+    top: int
+    one_lot: Callable[[int, int], int]
+
+    def charge(self, rate, price, lots):
+        if rate > self.top or not 1 <= price <= TOP_PRICE or lots > TOP_LOTS:
+            return 0
+        return self.one_lot(rate, price) * lots
+
+
+# Rates are ten-thousandths of the price, and a lot's charge is rounded up.
+PERCENT = Rule(10_000, lambda rate, price: -(-price * rate // 10_000))
+# The rate is the charge.
+FLAT = Rule(10**9, lambda rate, price: rate)
 
 
 # --- records of the book -----------------------------------------------------
@@ -158,12 +183,16 @@ class Row:
     funding_days: int
     delivery_days: int
     rate: int
+    rule: Rule
+
+    def charge(self, price, lots):
+        return self.rule.charge(self.rate, price, lots)
 
     def is_good(self):
         return (self.number < INSTRUMENTS
                 and 1 <= self.weight <= 100_000
                 and self.funding_days <= self.delivery_days <= 90
-                and self.rate <= TOP_RATE)
+                and self.rate <= self.rule.top)
 
 
 @dataclass
@@ -179,7 +208,7 @@ class Order:
         """Money held in the position register; a W sell holds goods instead."""
         if self.side == "S" and self.row.kind == "W":
             return 0
-        return percent_charge(self.row.rate, self.price, self.rest)
+        return self.row.charge(self.price, self.rest)
 
     def goods(self):
         if self.side == "S" and self.row.kind == "W":
@@ -212,13 +241,13 @@ class Contract:
         """Held at the buy order's price until the contract is funded."""
         if self.funded:
             return 0
-        return percent_charge(self.row.rate, self.buy_price, self.lots)
+        return self.row.charge(self.buy_price, self.lots)
 
     def seller_charge(self):
         """Held at the sell order's price for all lots, in kind S only."""
         if self.row.kind == "W":
             return 0
-        return percent_charge(self.row.rate, self.sell_price, self.lots)
+        return self.row.charge(self.sell_price, self.lots)
 
     def due(self):
         """Held in the buyer's clearing register once funded."""
@@ -433,7 +462,7 @@ class Book:
     def rate(self, instrument, rate):
         row = self.rows.get(instrument)
         refuse_if(row is None, 12)
-        refuse_if(rate > TOP_RATE, 13)
+        refuse_if(rate > row.rule.top, 13)
         row.rate = rate
         return self.short_members(), 0
 
@@ -596,8 +625,8 @@ def read_line(line):
 class Run:
     """Rows are collected until the book opens; then calls go to the book."""
 
-    def __init__(self, money, goods):
-        self.money, self.goods = money, goods
+    def __init__(self, money, goods, rule):
+        self.money, self.goods, self.rule = money, goods, rule
         self.rows = []
         self.book = None
 
@@ -617,16 +646,16 @@ class Run:
     def take_row(self, values):
         if self.book is not None:
             raise Refused("S", 55)
-        self.rows.append(Row(*values))
+        self.rows.append(Row(*values, self.rule))
         return 0, 0
 
 
-def run_sheet(sheet, money, goods):
+def run_sheet(sheet, money, goods, rule=PERCENT):
     """All lines that the program prints for the sheet."""
     if len(sheet) > SHEET_BYTES:
         yield "0,R,S,56,0"
         return
-    run = Run(money, goods)
+    run = Run(money, goods, rule)
     for number, line in enumerate(split_lines(sheet), 1):
         try:
             first, second = run.take(line)
@@ -649,9 +678,11 @@ def main():
     parser.add_argument("--journal", nargs=2, type=int,
                         metavar=("MONEY_PLACES", "GOODS_PLACES"),
                         help="journal keepers with so many places instead of tables")
+    parser.add_argument("--flat", action="store_true", help="the flat rule instead of percent")
     options = parser.parse_args()
     money, goods = make_keepers(options.journal)
-    for line in run_sheet(sys.stdin.buffer.read(), money, goods):
+    rule = FLAT if options.flat else PERCENT
+    for line in run_sheet(sys.stdin.buffer.read(), money, goods, rule):
         sys.stdout.write(line + "\n")
 
 

@@ -1,3 +1,5 @@
-pub mod Allowing
+pub mod Calls
 pub mod Shorts
-pub mod Turning
+pub mod Settling
+pub mod Running
+pub mod Lent

@@ -1,4 +1,7 @@
+pub mod Halves
+pub mod Entered
 pub mod Views
-pub mod Taking
-pub mod Turning
-pub mod Houses
+pub mod Calls
+pub mod Steps
+pub mod Settled
+pub mod SectionBook

@@ -1,23 +1,29 @@
--- What a book stands for. Assumes nothing.
+-- What is seen of a book. Assumes nothing.
 use Rattle.keeper.specs.declared.keepers.Registers as registers
-use Rattle.charge.specs.declared.rule.ChargeRule as rule
-use Rattle.rules.specs.Limits.{Half, Ledger}
-use Rattle.rules.specs.Runs.{Point}
-use Rattle.desk.specs.Views.{desk_of}
+use Rattle.charge.specs.declared.ChargeRule as rule
+use Rattle.rules.specs.Limits.{Half}
+use Rattle.rules.specs.Runs.{Keepers, Snapshot}
+use Rattle.section.specs.Views.{ledger_of}
+use Rattle.section.specs.declared.section.Section.{Section}
 use Rattle.book.specs.declared.book.Book.{Book}
 
-module _ {H M G R : Type 0} (h : Half) (m : registers.Ghosts M) (g : registers.Ghosts G) (r : rule.Ghosts R) where
-  -- the ledger of a book: its rule, its desk in its half of the day, and its keepers' amounts
-  abbrev pub ledger_of : Book H M G R → Ledger
-  ledger_of b =
+-- the two keepers of a book
+abbrev pub keepers_of : {H M G R : Type 0} → Book H M G R → Keepers M G
+keepers_of b = record { money = b.money; goods = b.goods }
+
+-- what a book gives back: its keepers of money and of goods, and its charge rule
+abbrev pub parts_of : {H M G R : Type 0} → Book H M G R → M × G × R
+parts_of b = (b.money, b.goods, b.rule)
+
+module _ {M G R : Type 0} (h : Half) (m : registers.Ghosts M) (g : registers.Ghosts G) (r : rule.Ghosts R) where
+  -- a section in a half of the day over two keepers and a rule: its ledger, and what the two keepers mean beside it
+  abbrev pub seen : Section → M → G → R → Snapshot
+  seen d money goods charges =
       record {
-        top = r.top b.house.rule;
-        charge = r.charge b.house.rule;
-        desk = desk_of h b.desk;
-        money = (m.meaning b.house.money).amounts;
-        goods = (g.meaning b.house.goods).amounts;
+        ledger = ledger_of h r d charges (m.meaning money).amounts (g.meaning goods).amounts;
+        money = m.meaning money;
+        goods = g.meaning goods;
       }
 
-  -- the ledger, and what the two keepers mean beside it
-  abbrev pub point_of : Book H M G R → Point
-  point_of b = record { ledger = ledger_of b; money = m.meaning b.house.money; goods = g.meaning b.house.goods }
+  abbrev pub snapshot_of : {H : Type 0} → Book H M G R → Snapshot
+  snapshot_of b = seen b.section b.money b.goods b.rule

@@ -1,72 +1,61 @@
 // What members bring to their accounts, take and shift. Each call has its numbers one by one, as a line of a sheet.
-ghost use Rattle.std.specs.Prelude.{◌≡◌, ◌≤◌, true};
-ghost use Rattle.rules.specs.Checks.{stored};
+ghost use Rattle.std.specs.Prelude.{◌≡◌, Ok, Err, OnErr, if◌then◌else◌};
 ghost use Rattle.rules.specs.Terms.{good_amount};
+ghost use Rattle.rules.specs.declared.calls.Account.TheVariants.{Position};
 ghost use Rattle.rules.specs.declared.calls.Call.TheVariants.{Deposit, DepositGoods, Shift, Withdraw, WithdrawGoods};
-ghost use Rattle.desk.specs.Called.{alone};
-ghost use Rattle.book.specs.Taking.{Calls, Checked, ledger};
+ghost use Rattle.rules.specs.declared.refusals.Refusal.TheVariants.{BadValue};
+ghost use Rattle.section.specs.Called.{answers_of_one, answers_of_two};
+ghost use Rattle.book.specs.Calls.{Calls, Checked};
 
-use crate::book::{Book, TradingBook};
-use crate::halves::HalfOfDay;
-use crate::registers::{Member, Stock};
-use crate::shows::Shows;
+use crate::book::Book;
+use crate::halves::{HalfOfDay, TakesOrders};
+use crate::view::BookView;
 use charge::ChargeRule;
 use keeper::{Entry, Keeper};
-use rules::calls::Account;
-use rules::refusals::Refusal;
-use rules::rows::Kind;
+use rules::{Account, MAX_AMOUNT, Refusal};
+use section::{Member, Stock, held};
 
-/// The most that is brought, taken or shifted at once: the book's own limit, though the keepers' has the same number.
-const MOST: u64 = 1_000_000_000_000_000;
-
-/// Kopecks or kilograms that can be brought or taken.
-fn is_amount(amount: u64) -> bool
-    ensures { result ≡ good_amount amount }
+/// Kopecks or kilograms that can be brought or taken. The book's own limit, though the keepers' has the same number.
+fn check_amount(amount: u64) -> Result<(), Refusal>
+    ensures { result ≡ (if good_amount amount then Ok tt else Err BadValue) }
 {
-    (1..=MOST).contains(&amount)
+    if !(1..=MAX_AMOUNT).contains(&amount) {
+        return Err(Refusal::BadValue);
+    }
+    Ok(())
 }
 
 impl<H: HalfOfDay, M: Keeper, G: Keeper, R: ChargeRule> Book<H, M, G, R> {
     /// The member who brings money, or what the book refuses a deposit of it for.
-    fn check_money(&self, member: u64, account: Account, amount: u64) -> Result<Member, Refusal>
-        ensures { Checked ⟦<Self as Shows>⟧ self.now (Deposit member account amount) (λ m. m.number ≡ member) result }
+    // Position stands for either account: no check of a deposit looks at it.
+    fn check_money(&self, member: u64, amount: u64) -> Result<Member, Refusal>
+        ensures { Checked ⟦<Self as BookView>⟧ self.now (Deposit member Position amount)
+            (λ m. m.number ≡ member) result }
     {
         let member = self.member(member)?;
-        if !is_amount(amount) {
-            return Err(Refusal::BadValue);
-        }
+        check_amount(amount)?;
         Ok(member)
     }
 
     /// Brings money to a member's account, and answers the new amount.
     pub fn deposit(&mut self, member: u64, account: Account, amount: u64) -> Result<u64, Refusal>
-        ensures { Calls ⟦<Self as Shows>⟧ self.old (Deposit member account amount) (alone result) self.new }
+        ensures called { Calls ⟦<Self as BookView>⟧ self.old (Deposit member account amount)
+            (answers_of_one result) self.new }
+        ensures err { OnErr result (self.new ≡ self.old) }
     {
-        let receiver = self.check_money(member, account, amount)?.account(account);
-        self.house.enter_money(Entry::Credit { receiver, amount })
-    }
-
-    /// Whether an instrument's goods are kept in a warehouse.
-    fn stores(&self, instrument: u64) -> bool
-        ensures value { result ≡ stored (ledger ⟦<Self as Shows>⟧ self.now) instrument }
-        ensures listed { result ≡ true → instrument ≤ 15 }
-    {
-        let row = self.desk.row(instrument);
-        row.is_some_and(|row| matches!(row.kind, Kind::Warehouse))
+        let receiver = self.check_money(member, amount)?.account(account);
+        self.enter_money(Entry::Credit { receiver, amount })
     }
 
     /// The register's member and instrument, or what the book refuses a deposit of goods for.
     fn check_goods(&self, member: u64, instrument: u64, kilograms: u64) -> Result<Stock, Refusal>
-        ensures { Checked ⟦<Self as Shows>⟧ self.now (DepositGoods member instrument kilograms) (λ s. (s.member.number ≡ member) × (s.instrument ≡ instrument)) result }
+        ensures { Checked ⟦<Self as BookView>⟧ self.now (DepositGoods member instrument kilograms)
+            (λ s. (s.member.number ≡ member) × (s.instrument ≡ instrument)) result }
     {
         let member = self.member(member)?;
-        if !self.stores(instrument) {
-            return Err(Refusal::NoInstrument);
-        }
-        if !is_amount(kilograms) {
-            return Err(Refusal::BadValue);
-        }
-        Ok(Stock { member, instrument })
+        let stock = self.section.warehoused_stock(member, instrument)?;
+        check_amount(kilograms)?;
+        Ok(stock)
     }
 
     /// Brings goods to a member's register of an instrument, and answers the new amount.
@@ -76,23 +65,25 @@ impl<H: HalfOfDay, M: Keeper, G: Keeper, R: ChargeRule> Book<H, M, G, R> {
         instrument: u64,
         kilograms: u64,
     ) -> Result<u64, Refusal>
-        ensures { Calls ⟦<Self as Shows>⟧ self.old (DepositGoods member instrument kilograms) (alone result) self.new }
+        ensures called { Calls ⟦<Self as BookView>⟧ self.old
+            (DepositGoods member instrument kilograms) (answers_of_one result) self.new }
+        ensures err { OnErr result (self.new ≡ self.old) }
     {
         let receiver = self.check_goods(member, instrument, kilograms)?.register();
-        let entry = Entry::Credit {
+        self.enter_goods(Entry::Credit {
             receiver,
             amount: kilograms,
-        };
-        self.house.enter_goods(entry)
+        })
     }
 }
 
-impl<M: Keeper, G: Keeper, R: ChargeRule> TradingBook<M, G, R> {
+impl<H: TakesOrders, M: Keeper, G: Keeper, R: ChargeRule> Book<H, M, G, R> {
     /// The member who takes money, or what the book refuses a withdrawal or a shift of it for.
     fn check_taking(&self, member: u64, account: Account, amount: u64) -> Result<Member, Refusal>
-        ensures { Checked ⟦<Self as Shows>⟧ self.now (Withdraw member account amount) (λ m. m.number ≡ member) result }
+        ensures { Checked ⟦<Self as BookView>⟧ self.now (Withdraw member account amount)
+            (λ m. m.number ≡ member) result }
     {
-        let member = self.check_money(member, account, amount)?;
+        let member = self.check_money(member, amount)?;
         if self.free_money(member, account) < amount as i64 {
             return Err(Refusal::FreeLimit);
         }
@@ -101,10 +92,12 @@ impl<M: Keeper, G: Keeper, R: ChargeRule> TradingBook<M, G, R> {
 
     /// Takes money from a member's account, and answers the new amount.
     pub fn withdraw(&mut self, member: u64, account: Account, amount: u64) -> Result<u64, Refusal>
-        ensures { Calls ⟦<Self as Shows>⟧ self.old (Withdraw member account amount) (alone result) self.new }
+        ensures called { Calls ⟦<Self as BookView>⟧ self.old (Withdraw member account amount)
+            (answers_of_one result) self.new }
+        ensures err { OnErr result (self.new ≡ self.old) }
     {
         let giver = self.check_taking(member, account, amount)?.account(account);
-        self.house.enter_money(Entry::Debit { giver, amount })
+        self.enter_money(Entry::Debit { giver, amount })
     }
 
     /// Moves money between a member's two accounts, and answers what is then in position and in clearing.
@@ -114,17 +107,18 @@ impl<M: Keeper, G: Keeper, R: ChargeRule> TradingBook<M, G, R> {
         source: Account,
         amount: u64,
     ) -> Result<(u64, u64), Refusal>
-        ensures { Calls ⟦<Self as Shows>⟧ self.old (Shift member source amount) result self.new }
+        ensures called { Calls ⟦<Self as BookView>⟧ self.old (Shift member source amount)
+            (answers_of_two result) self.new }
+        ensures err { OnErr result (self.new ≡ self.old) }
     {
         let member = self.check_taking(member, source, amount)?;
-        let entry = Entry::Transfer {
+        self.enter_money(Entry::Transfer {
             giver: member.account(source),
             receiver: member.account(source.other()),
             amount,
-        };
-        self.house.enter_money(entry)?;
-        let position = self.amount(member, Account::Position);
-        let clearing = self.amount(member, Account::Clearing);
+        })?;
+        let position = held(&self.money, member.account(Account::Position));
+        let clearing = held(&self.money, member.account(Account::Clearing));
         Ok((position, clearing))
     }
 
@@ -135,7 +129,8 @@ impl<M: Keeper, G: Keeper, R: ChargeRule> TradingBook<M, G, R> {
         instrument: u64,
         kilograms: u64,
     ) -> Result<Stock, Refusal>
-        ensures { Checked ⟦<Self as Shows>⟧ self.now (WithdrawGoods member instrument kilograms) (λ s. (s.member.number ≡ member) × (s.instrument ≡ instrument)) result }
+        ensures { Checked ⟦<Self as BookView>⟧ self.now (WithdrawGoods member instrument kilograms)
+            (λ s. (s.member.number ≡ member) × (s.instrument ≡ instrument)) result }
     {
         let stock = self.check_goods(member, instrument, kilograms)?;
         if self.free_goods(stock) < kilograms as i64 {
@@ -151,15 +146,16 @@ impl<M: Keeper, G: Keeper, R: ChargeRule> TradingBook<M, G, R> {
         instrument: u64,
         kilograms: u64,
     ) -> Result<u64, Refusal>
-        ensures { Calls ⟦<Self as Shows>⟧ self.old (WithdrawGoods member instrument kilograms) (alone result) self.new }
+        ensures called { Calls ⟦<Self as BookView>⟧ self.old
+            (WithdrawGoods member instrument kilograms) (answers_of_one result) self.new }
+        ensures err { OnErr result (self.new ≡ self.old) }
     {
         let giver = self
             .check_taking_goods(member, instrument, kilograms)?
             .register();
-        let entry = Entry::Debit {
+        self.enter_goods(Entry::Debit {
             giver,
             amount: kilograms,
-        };
-        self.house.enter_goods(entry)
+        })
     }
 }

@@ -2,22 +2,21 @@
 ghost use Rattle.std.specs.Prelude.{◌≡◌, true, Err, MatchResult};
 ghost use Rattle.rules.specs.Limits.{demand, has_row, known};
 ghost use Rattle.rules.specs.Questions.{of_goods, reply};
-ghost use Rattle.rules.specs.declared.calls.Reply.{Reply};
-ghost use Rattle.book.specs.Taking.{ledger};
+ghost use Rattle.rules.specs.declared.questions.Reply.{Reply};
+ghost use Rattle.book.specs.Calls.{ledger};
 
 use crate::book::Book;
 use crate::halves::HalfOfDay;
-use crate::registers::{Member, Stock};
-use crate::shows::Shows;
+use crate::view::BookView;
 use charge::ChargeRule;
 use keeper::Keeper;
-use rules::calls::{Account, Question, Reply};
-use rules::refusals::Refusal;
+use rules::{Account, Question, Refusal, Reply};
+use section::{Member, Stock, held};
 
 impl<H: HalfOfDay, M: Keeper, G: Keeper, R: ChargeRule> Book<H, M, G, R> {
     /// The margin demand: how far the free position limit is below zero.
     fn demand(&self, member: Member) -> u64
-        ensures { result ≡ demand (ledger ⟦<Self as Shows>⟧ self.now) member.number }
+        ensures { result ≡ demand (ledger ⟦<Self as BookView>⟧ self.now) member.number }
     {
         self.free_money(member, Account::Position)
             .min(0)
@@ -26,25 +25,28 @@ impl<H: HalfOfDay, M: Keeper, G: Keeper, R: ChargeRule> Book<H, M, G, R> {
 
     /// The goods that a question names, if the member is known and the instrument has a row.
     fn asked_stock(&self, member: u64, instrument: u64) -> Result<Stock, Refusal>
-        ensures { MatchResult result (λ s. (known (ledger ⟦<Self as Shows>⟧ self.now) member ≡ true) × (has_row (ledger ⟦<Self as Shows>⟧ self.now) instrument ≡ true) × (s.member.number ≡ member) × (s.instrument ≡ instrument)) (λ e. (r : Reply) → of_goods (ledger ⟦<Self as Shows>⟧ self.now) member instrument r ≡ Err e) }
+        ensures { MatchResult result
+            (λ s. (known (ledger ⟦<Self as BookView>⟧ self.now) member ≡ true)
+            × (has_row (ledger ⟦<Self as BookView>⟧ self.now) instrument ≡ true)
+            × (s.member.number ≡ member) × (s.instrument ≡ instrument))
+            (λ e. (r : Reply) →
+            of_goods (ledger ⟦<Self as BookView>⟧ self.now) member instrument r ≡ Err e) }
     {
-        let member = self.member(member)?;
-        self.desk.row(instrument).ok_or(Refusal::NoInstrument)?;
-        Ok(Stock { member, instrument })
+        self.section.stock(self.member(member)?, instrument)
     }
 
     /// Amounts, free limits, demands, live orders and live contracts; nothing changes.
     pub fn ask(&self, question: Question) -> Result<Reply, Refusal>
-        ensures { result ≡ reply (ledger ⟦<Self as Shows>⟧ self.now) question }
+        ensures { result ≡ reply (ledger ⟦<Self as BookView>⟧ self.now) question }
     {
         match question {
             Question::Amount { member, account } => {
-                let member = self.member(member)?;
-                Ok(Reply::Sum(self.amount(member, account)))
+                let register = self.member(member)?.account(account);
+                Ok(Reply::Sum(held(&self.money, register)))
             }
             Question::Stock { member, instrument } => {
-                let stock = self.asked_stock(member, instrument)?;
-                Ok(Reply::Sum(self.stock(stock)))
+                let register = self.asked_stock(member, instrument)?.register();
+                Ok(Reply::Sum(held(&self.goods, register)))
             }
             Question::FreeMoney { member, account } => {
                 let member = self.member(member)?;
@@ -59,11 +61,14 @@ impl<H: HalfOfDay, M: Keeper, G: Keeper, R: ChargeRule> Book<H, M, G, R> {
                 Ok(Reply::Sum(self.demand(member)))
             }
             Question::OrderOf { number } => {
-                let live = self.desk.order(number).ok_or(Refusal::OrderNotLive)?;
+                let live = self.section.order(number).ok_or(Refusal::OrderNotLive)?;
                 Ok(Reply::TheOrder(live))
             }
             Question::ContractOf { number } => {
-                let found = self.desk.contract(number).ok_or(Refusal::ContractNotLive)?;
+                let found = self
+                    .section
+                    .contract(number)
+                    .ok_or(Refusal::ContractNotLive)?;
                 Ok(Reply::TheContract(found.into()))
             }
         }

@@ -1,105 +1,104 @@
 // What staff bring to a session book: fundings, deliveries and defaults.
-ghost use Rattle.std.specs.Prelude.{◌≡◌, true};
-ghost use Rattle.rules.specs.Settling.{failing};
+ghost use Rattle.std.specs.Prelude.{◌≡◌, OnErr};
 ghost use Rattle.rules.specs.declared.calls.Call.TheVariants.{Settle};
 ghost use Rattle.rules.specs.declared.contracts.Event.TheVariants.{Default, Delivery, Funding};
-ghost use Rattle.desk.specs.Called.{alone};
-ghost use Rattle.settling.specs.Fits.{fit_contract};
-ghost use Rattle.book.specs.Turning.{TurnsOut, occasion};
-ghost use Rattle.book.specs.Taking.{Calls, ledger};
+ghost use Rattle.section.specs.Called.{answers_of_one};
+ghost use Rattle.book.specs.Calls.{Calls};
 
-use crate::book::SessionBook;
-use crate::registers::Member;
-use crate::shows::Shows;
+use crate::book::Book;
+use crate::halves::TakesEvents;
+use crate::transfers::transfer;
+use crate::view::BookView;
 use charge::ChargeRule;
 use keeper::Keeper;
-use posting::post_moves;
-use rules::calls::Account;
-use rules::contracts::{Contract, Event, State};
-use rules::refusals::Refusal;
-use settling::{Occasion, Turn};
+use rules::{Answers, Event, Refusal};
 
-/// The side that fails if the contract defaults: the buyer until it is funded, and then the seller.
-fn failing_side(contract: &Contract) -> u64
-    ensures { result ≡ failing contract.now }
-{
-    match contract.state {
-        State::Unfunded => contract.buyer,
-        State::Funded { .. } => contract.seller,
+/// A delivery as it was counted.
+#[derive(Clone, Copy, Debug, PartialEq, Eq)]
+pub struct Delivered {
+    /// At most those open.
+    pub kilograms: u64,
+    /// Kopecks for them.
+    pub payment: u64,
+}
+
+impl From<Answers> for Delivered {
+    ghost use Rattle.book.specs.Settled.{delivered_of};
+
+    ghost from_gives = { λ a d. d ≡ delivered_of a };
+
+    fn from(answers: Answers) -> Delivered {
+        Delivered {
+            kilograms: answers.first,
+            payment: answers.second,
+        }
     }
 }
 
-impl<M: Keeper, G: Keeper, R: ChargeRule> SessionBook<M, G, R> {
-    /// An event of a contract, with what it looks at of its parties' money.
-    fn occasion(&self, contract: &Contract, event: Event) -> Occasion
-        requires { fit_contract contract.now ≡ true }
-        ensures { result ≡ occasion (ledger ⟦<Self as Shows>⟧ self.now) contract.now event }
-    {
-        match event {
-            Event::Funding => {
-                let buyer = Member {
-                    number: contract.buyer,
-                };
-                let free = self.free_money(buyer, Account::Clearing);
-                Occasion::Funding { free }
-            }
-            Event::Delivery { kilograms } => Occasion::Delivery { kilograms },
-            Event::Default => {
-                let failing = Member {
-                    number: failing_side(contract),
-                };
-                let amount = self.amount(failing, Account::Position);
-                Occasion::Default { amount }
-            }
+/// The penalty of a default, in kopecks.
+#[derive(Clone, Copy, Debug, PartialEq, Eq)]
+pub struct Penalty {
+    /// As far as the failing side's position goes.
+    pub paid: u64,
+    pub unpaid: u64,
+}
+
+impl From<Answers> for Penalty {
+    ghost use Rattle.book.specs.Settled.{penalty_of};
+
+    ghost from_gives = { λ a p. p ≡ penalty_of a };
+
+    fn from(answers: Answers) -> Penalty {
+        Penalty {
+            paid: answers.first,
+            unpaid: answers.second,
         }
     }
+}
 
-    /// What an event of a live contract comes to before the keepers are asked, or what the book refuses it for.
-    fn turn(&self, contract: u64, event: Event) -> Result<Turn, Refusal>
-        ensures { TurnsOut (ledger ⟦<Self as Shows>⟧ self.now) contract event result }
-    {
-        let found = self
-            .desk
-            .contract(contract)
-            .ok_or(Refusal::ContractNotLive)?;
-        let occasion = self.occasion(&found, event);
-        self.desk.turn(&self.house.rule, &found, occasion)
-    }
+impl<H: TakesEvents, M: Keeper, G: Keeper, R: ChargeRule> Book<H, M, G, R> {
+    ghost use Rattle.book.specs.Settled.{answers_of_default, answers_of_delivery};
 
     /// An event of a live contract: refused by its own state and the day, then by the keepers, which are both
     /// asked before the first entry.
-    fn settle(&mut self, contract: u64, event: Event) -> Result<(u64, u64), Refusal>
-        ensures { Calls ⟦<Self as Shows>⟧ self.old (Settle contract event) result self.new }
+    pub(crate) fn settle(&mut self, contract: u64, event: Event) -> Result<Answers, Refusal>
+        ensures called { Calls ⟦<Self as BookView>⟧ self.old
+            (Settle contract event) result self.new }
+        ensures err { OnErr result (self.new ≡ self.old) }
     {
-        let turn = self.turn(contract, event)?;
-        post_moves(
-            &mut self.house.money,
-            &mut self.house.goods,
-            turn.money,
-            turn.goods,
-        )?;
-        self.desk.settle(turn);
-        Ok((turn.first, turn.second))
+        let settlement = self
+            .section
+            .settle(&self.rule, &self.money, contract, event)?;
+        let effect = settlement.effect;
+        transfer(&mut self.money, &mut self.goods, effect.money, effect.goods)?;
+        self.section.apply(settlement);
+        Ok(effect.answers)
     }
 
     /// Funds a contract, and answers its due.
     pub fn fund(&mut self, contract: u64) -> Result<u64, Refusal>
-        ensures { Calls ⟦<Self as Shows>⟧ self.old (Settle contract Funding) (alone result) self.new }
+        ensures called { Calls ⟦<Self as BookView>⟧ self.old
+            (Settle contract Funding) (answers_of_one result) self.new }
+        ensures err { OnErr result (self.new ≡ self.old) }
     {
-        self.settle(contract, Event::Funding).map(|(due, _)| due)
+        Ok(self.settle(contract, Event::Funding)?.first)
     }
 
     /// Reports kilograms delivered, and answers those counted and the payment for them.
-    pub fn deliver(&mut self, contract: u64, kilograms: u64) -> Result<(u64, u64), Refusal>
-        ensures { Calls ⟦<Self as Shows>⟧ self.old (Settle contract (Delivery kilograms)) result self.new }
+    pub fn deliver(&mut self, contract: u64, kilograms: u64) -> Result<Delivered, Refusal>
+        ensures called { Calls ⟦<Self as BookView>⟧ self.old (Settle contract (Delivery kilograms))
+            (answers_of_delivery result) self.new }
+        ensures err { OnErr result (self.new ≡ self.old) }
     {
-        self.settle(contract, Event::Delivery { kilograms })
+        Ok(self.settle(contract, Event::Delivery { kilograms })?.into())
     }
 
     /// Declares a default, and answers what of the penalty is paid and what is not.
-    pub fn default(&mut self, contract: u64) -> Result<(u64, u64), Refusal>
-        ensures { Calls ⟦<Self as Shows>⟧ self.old (Settle contract Default) result self.new }
+    pub fn default(&mut self, contract: u64) -> Result<Penalty, Refusal>
+        ensures called { Calls ⟦<Self as BookView>⟧ self.old
+            (Settle contract Default) (answers_of_default result) self.new }
+        ensures err { OnErr result (self.new ≡ self.old) }
     {
-        self.settle(contract, Event::Default)
+        Ok(self.settle(contract, Event::Default)?.into())
     }
 }

@@ -5,10 +5,11 @@ ghost use Rattle.charge.specs.Lots.{lots_none, lots_bounded, rate_bounded, lots_
 use crate::rule::{ChargeRule, is_chargeable};
 
 /// The rate is the charge for one lot, whatever its price.
-#[derive(Clone, Copy)]
+#[derive(Clone, Copy, Debug, PartialEq, Eq)]
 pub struct FlatRule;
 
-const TOP: u64 = 1_000_000_000;
+/// The top rate.
+const MAX_RATE: u64 = 1_000_000_000;
 
 impl ChargeRule for FlatRule {
     ghost top = { λ _. flat_top };
@@ -17,16 +18,17 @@ impl ChargeRule for FlatRule {
 
     ghost none = { λ r rate price lots h. lots_none flat_top rate rate price lots h };
 
-    ghost bounded = { λ r rate price lots. lots_bounded flat_top rate rate price lots (rate_bounded rate price lots) };
+    ghost bounded = { λ r rate price lots.
+        lots_bounded flat_top rate rate price lots (rate_bounded rate price lots) };
 
     ghost splits = { λ r rate price a b h. lots_split flat_top rate rate price a b h };
 
     fn top(&self) -> u64 {
-        TOP
+        MAX_RATE
     }
 
     fn charge(&self, rate: u64, price: u64, lots: u64) -> u64 {
-        if !is_chargeable(TOP, rate, price, lots) {
+        if !is_chargeable(MAX_RATE, rate, price, lots) {
             return 0;
         }
         rate * lots

@@ -7,4 +7,4 @@ mod rule;
 
 pub use flat::FlatRule;
 pub use percent::PercentRule;
-pub use rule::ChargeRule;
+pub use rule::{ChargeRule, MAX_LOTS, MAX_PRICE};

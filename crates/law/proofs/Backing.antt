@@ -76,13 +76,13 @@ order_backs b o l free =
     let new = order_shares b l (unfilled o) in
     let one = one_share (is_in_goods b o) (position_of o.member) (goods_of o.member o.instrument) l (o.lots * r.weight) (b.charge r.rate o.price o.lots) in
     free_backs b (Place o) (limit_of b o) (order_hold b o) l free
-    (omega (arith, untaken (entries b (Place o)) (λ r. refl) (λ r. refl) l, sum_by_push (order_on b l) b.desk.orders (unfilled o), new, one))
+    (omega (arith, untaken (entries b (Place o)) (λ r. refl) (λ r. refl) l, sum_by_push (order_on b l) b.section.orders (unfilled o), new, one))
 
 pub cancel_backs : (b : Ledger) (n : ℕ) (l : Limit) → Backed b (Cancel n) l
-cancel_backs b n l = untaken_backs b (Cancel n) l (untaken (entries b (Cancel n)) (λ r. refl) (λ r. refl) l) (omega (arith, sum_kept (order_on b l) (other_order n) b.desk.orders))
+cancel_backs b n l = untaken_backs b (Cancel n) l (untaken (entries b (Cancel n)) (λ r. refl) (λ r. refl) l) (omega (arith, sum_kept (order_on b l) (other_order n) b.section.orders))
 
 pub closing_backs : (b : Ledger) (l : Limit) → Backed b EndTrading l
-closing_backs b l = untaken_backs b EndTrading l (untaken (entries b EndTrading) (λ r. refl) (λ r. refl) l) (omega (arith, sum_kept (order_on b l) (goes_on b.desk.day) b.desk.orders))
+closing_backs b l = untaken_backs b EndTrading l (untaken (entries b EndTrading) (λ r. refl) (λ r. refl) l) (omega (arith, sum_kept (order_on b l) (goes_on b.section.day) b.section.orders))
 
 -- ---- a rating, which changes what is held of position registers alone
 
@@ -101,9 +101,9 @@ rated_holds b i rate (position_of m) g = absurd g
 rated_holds b i rate (clearing_of m) g = refl
 rated_holds b i rate (goods_of m j) g =
     let e = after b (Rerate i rate) in
-    let rated = λ (n : ℕ). rerated_alike n i rate b.desk.rows in
-    let os = sum_same (order_on e (goods_of m j)) (order_on b (goods_of m j)) (λ o. let n = o.order.instrument in alike (λ r. if_for m o.order.member (if_for j n (order_goods r o))) (λ r. refl) (row_at e n) (row_at b n) (rated n)) b.desk.orders in
-    let ks = sum_same (contract_on e (goods_of m j)) (contract_on b (goods_of m j)) (λ k. let n = k.instrument in alike (λ r. if_for m k.seller (if_for j n (kilograms_held r k))) (λ r. refl) (row_at e n) (row_at b n) (rated n)) b.desk.contracts in
+    let rated = λ (n : ℕ). rerated_alike n i rate b.section.rows in
+    let os = sum_same (order_on e (goods_of m j)) (order_on b (goods_of m j)) (λ o. let n = o.order.instrument in alike (λ r. if_for m o.order.member (if_for j n (order_goods r o))) (λ r. refl) (row_at e n) (row_at b n) (rated n)) b.section.orders in
+    let ks = sum_same (contract_on e (goods_of m j)) (contract_on b (goods_of m j)) (λ k. let n = k.instrument in alike (λ r. if_for m k.seller (if_for j n (kilograms_held r k))) (λ r. refl) (row_at e n) (row_at b n) (rated n)) b.section.contracts in
     omega (arith, os, ks)
 
 pub rating_backs : (b : Ledger) (i rate : ℕ) (l : Limit) → Guarded l → Backed b (Rerate i rate) l

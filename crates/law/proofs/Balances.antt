@@ -22,7 +22,7 @@ use Rattle.law.proofs.Accepting.{Accepts}
 use Rattle.law.proofs.Running.{done}
 use Rattle.law.proofs.Pushing.{moves_push}
 use Rattle.law.proofs.Tied.{Tie}
-use Rattle.law.proofs.TiedEvents.{Told, told_at}
+use Rattle.law.proofs.TiedEvents.{Response, response_at}
 
 -- two entries, or none, that move the same
 record MovesSame (e f : Option Entry) : Type 0 where
@@ -46,10 +46,10 @@ transfer_moves g q a = record { brought = transfer_brings g q a; taken = transfe
 -- ---- events
 
 abbrev moved : List Row → List Done → Ledger → Call → Entries
-moved rows past b c = call_moves rows past c (answer b c).0 (answer b c).1
+moved rows past b c = call_moves rows past c (answer b c).first (answer b c).second
 
 -- the failing side is the one that the accepted calls tell of
-default_moves : (rows : List Row) (past : List Done) (b : Ledger) (n : ℕ) → Told rows past b n → (x y : ℕ) →
+default_moves : (rows : List Row) (past : List Done) (b : Ledger) (n : ℕ) → Response rows past b n → (x y : ℕ) →
     event_moves rows past n Default x y ≡ record { money = Some (Transfer (position_register (failing (contract_at b n))) (position_register (injured (contract_at b n))) x); goods = None }
 default_moves rows past b n t x y =
     elim (cases_Bool (is_funded (contract_at b n).state)) [
@@ -57,7 +57,7 @@ default_moves rows past b n t x y =
       | inr e ↦ let f : funded_in past n ≡ false = t.funded ∙ e in simp (f, e, t.buyer, t.seller)
     ]
 
-event_agrees : (rows : List Row) (past : List Done) (b : Ledger) (n : ℕ) (e : Event) → Told rows past b n → Agrees (entries b (Settle n e)) (moved rows past b (Settle n e))
+event_agrees : (rows : List Row) (past : List Done) (b : Ledger) (n : ℕ) (e : Event) → Response rows past b n → Agrees (entries b (Settle n e)) (moved rows past b (Settle n e))
 event_agrees rows past b n Funding t = agrees (entries b (Settle n Funding))
 event_agrees rows past b n (Delivery kg) t =
     let k = contract_at b n in
@@ -74,12 +74,12 @@ event_agrees rows past b n (Delivery kg) t =
 event_agrees rows past b n Default t =
     let k = contract_at b n in
     let paid = penalty_paid b.charge (contract_row b n) (position b (failing k)) k in
-    subst (Agrees (entries b (Settle n Default))) (sym (default_moves rows past b n t paid (answer b (Settle n Default)).1))
+    subst (Agrees (entries b (Settle n Default))) (sym (default_moves rows past b n t paid (answer b (Settle n Default)).second))
     (record { money = transfer_moves (position_register (failing k)) (position_register (injured k)) paid; goods = same_moves None })
 
 -- ---- every call
 
-call_agrees : (rows : List Row) (past : List Done) (b : Ledger) (c : Call) → Accepts b c → Tie rows past b.desk → Agrees (entries b c) (moved rows past b c)
+call_agrees : (rows : List Row) (past : List Done) (b : Ledger) (c : Call) → Accepts b c → Tie rows past b.section → Agrees (entries b c) (moved rows past b c)
 call_agrees rows past b (Deposit m p a) h c = agrees _
 call_agrees rows past b (Withdraw m p a) h c = agrees _
 call_agrees rows past b (Shift m p a) h c = agrees _
@@ -90,9 +90,9 @@ call_agrees rows past b (Cancel n) h c = agrees _
 call_agrees rows past b (Execute t) h c = agrees _
 call_agrees rows past b (Rerate i rate) h c = agrees _
 call_agrees rows past b EndTrading h c = agrees _
-call_agrees rows past b (Settle n Funding) h c = event_agrees rows past b n Funding (told_at rows past b n h.passed.live c)
-call_agrees rows past b (Settle n (Delivery kg)) h c = event_agrees rows past b n (Delivery kg) (told_at rows past b n h.passed.live c)
-call_agrees rows past b (Settle n Default) h c = event_agrees rows past b n Default (told_at rows past b n h.passed.live c)
+call_agrees rows past b (Settle n Funding) h c = event_agrees rows past b n Funding (response_at rows past b n h.passed.live c)
+call_agrees rows past b (Settle n (Delivery kg)) h c = event_agrees rows past b n (Delivery kg) (response_at rows past b n h.passed.live c)
+call_agrees rows past b (Settle n Default) h c = event_agrees rows past b n Default (response_at rows past b n h.passed.live c)
 call_agrees rows past b EndSession h c = agrees _
 
 -- amounts beside the opening's, by what was brought and taken
@@ -103,7 +103,7 @@ pub record Balanced (rows : List Row) (xs ys : List ℕ) (past : List Done) (b :
 pushed : (rows : List Row) (past : List Done) (d : Done) (f : Entries → ℕ) → sum_by f (moves rows [] (past ++ d ∷ [])) ≡ sum_by f (moves rows [] past) + f (call_moves rows past d.call d.first d.second)
 pushed rows past d f = ap (sum_by f) (moves_push rows [] past d) ∙ sum_by_push f (moves rows [] past) (call_moves rows past d.call d.first d.second)
 
-pub keeps_balance : (rows : List Row) (xs ys : List ℕ) (past : List Done) (b : Ledger) (c : Call) → Accepts b c → Tie rows past b.desk → Balanced rows xs ys past b → Balanced rows xs ys (past ++ done b c ∷ []) (after b c)
+pub keeps_balance : (rows : List Row) (xs ys : List ℕ) (past : List Done) (b : Ledger) (c : Call) → Accepts b c → Tie rows past b.section → Balanced rows xs ys past b → Balanced rows xs ys (past ++ done b c ∷ []) (after b c)
 keeps_balance rows xs ys past b c a k h =
     let m = call_agrees rows past b c a k in
     let push = pushed rows past (done b c) in

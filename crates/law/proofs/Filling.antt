@@ -121,10 +121,10 @@ takes_over b t l a =
 
 -- ---- the two orders are live and different
 
-found_order : (b : Ledger) (n : ℕ) → order_live b n ≡ true → All Small b.desk.orders → Small (order_at b n) × ((order_at b n).order.number ≡ n)
-found_order b n live small = found_has (λ (o : LiveOrder). o.order.number) Small n b.desk.orders no_live_order live small
+found_order : (b : Ledger) (n : ℕ) → order_live b n ≡ true → All Small b.section.orders → Small (order_at b n) × ((order_at b n).order.number ≡ n)
+found_order b n live small = found_has (λ (o : LiveOrder). o.order.number) Small n b.section.orders no_live_order live small
 
-pub trade_backs : (b : Ledger) → Fair b.charge → (t : Trade) (l : Limit) → TradePassed b t → All Small b.desk.orders → Backed b (Execute t) l
+pub trade_backs : (b : Ledger) → Fair b.charge → (t : Trade) (l : Limit) → TradePassed b t → All Small b.section.orders → Backed b (Execute t) l
 trade_backs b fair t l a small =
     let number = λ (o : LiveOrder). o.order.number in
     let buy = order_at b t.buy in
@@ -134,15 +134,15 @@ trade_backs b fair t l a small =
     let apart : t.buy ≡ t.sell → ⊥ = λ e. both_ways (is_buy sell.order.side) a.sells (subst (λ n. is_buy (order_at b n).order.side ≡ true) e a.buys) in
     let here : lowered_by t buy ≡ at_rest buy (buy.rest - t.lots) = rw (or_left (eqb buy.order.number t.buy) (eqb buy.order.number t.sell) (eq-eqb buy.order.number t.buy fb.1)) refl in
     let there : lowered_by t sell ≡ at_rest sell (sell.rest - t.lots) = rw (or_right (eqb sell.order.number t.buy) (eqb sell.order.number t.sell) (eq-eqb sell.order.number t.sell fs.1)) refl in
-    let falls : Falls (order_on b l) (lowered_by t) b.desk.orders = All-weaker Small (λ o. order_on b l (lowered_by t o) ≤ order_on b l o) (lowered_falls b fair t l) b.desk.orders small in
+    let falls : Falls (order_on b l) (lowered_by t) b.section.orders = All-weaker Small (λ o. order_on b l (lowered_by t o) ≤ order_on b l o) (lowered_falls b fair t l) b.section.orders small in
     untaken_backs b (Execute t) l (untaken (entries b (Execute t)) (λ r. refl) (λ r. refl) l) (omega (
       arith,
-      sum_kept (order_on b l) has_rest (map (lowered_by t) b.desk.orders),
-      sum_lowered_two number (order_on b l) t.buy t.sell (lowered_by t) b.desk.orders no_live_order apart falls a.buy_live a.sell_live,
+      sum_kept (order_on b l) has_rest (map (lowered_by t) b.section.orders),
+      sum_lowered_two number (order_on b l) t.buy t.sell (lowered_by t) b.section.orders no_live_order apart falls a.buy_live a.sell_live,
       ap (order_on b l) here,
       ap (order_on b l) there,
       order_parts b fair l buy t.lots a.buy_rest fb.0,
       order_parts b fair l sell t.lots a.sell_rest fs.0,
-      sum_by_push (contract_on b l) b.desk.contracts (contract_of b t),
+      sum_by_push (contract_on b l) b.section.contracts (contract_of b t),
       takes_over b t l a,
     ))

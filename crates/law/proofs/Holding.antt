@@ -50,17 +50,17 @@ contract_held charge rows (clearing_of m) k = contract_on_clearing m k
 contract_held charge rows (goods_of m i) k = if_for m k.seller (if_for i k.instrument (kilograms_held (row_of rows k.instrument) k))
 
 abbrev pub order_on : Ledger → Limit → LiveOrder → ℕ
-order_on b l o = order_held b.charge b.desk.rows l o
+order_on b l o = order_held b.charge b.section.rows l o
 
 abbrev pub contract_on : Ledger → Limit → Contract → ℕ
-contract_on b l k = contract_held b.charge b.desk.rows l k
+contract_on b l k = contract_held b.charge b.section.rows l k
 
 abbrev pub holds : Ledger → Limit → ℕ
-holds b l = sum_by (order_on b l) b.desk.orders + sum_by (contract_on b l) b.desk.contracts
+holds b l = sum_by (order_on b l) b.section.orders + sum_by (contract_on b l) b.section.contracts
 
 -- orders hold nothing of a clearing register
 pub clearing_held : (b : Ledger) (m : ℕ) → holds b (clearing_of m) ≡ clearing_holds b m
-clearing_held b m = omega (arith, sum_zero b.desk.orders)
+clearing_held b m = omega (arith, sum_zero b.section.orders)
 
 -- so much is free
 abbrev pub Free : Ledger → Limit → ℕ → Type 0

@@ -16,3 +16,4 @@ pub mod Settling
 pub mod Sound
 pub mod Standing
 pub mod Whole
+pub mod Lent

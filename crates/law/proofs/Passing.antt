@@ -54,9 +54,9 @@ pub record OrderPassed (b : Ledger) (o : Order) : Type 0 where
   pub price : good_price o.price ≡ true
   pub lots : good_lots o.lots ≡ true
   pub last : good_last o.last ≡ true
-  pub today : is_before o.last b.desk.day ≡ false
-  pub number : b.desk.last_order < o.number
-  pub room : length b.desk.orders < most_live
+  pub today : is_before o.last b.section.day ≡ false
+  pub number : b.section.last_order < o.number
+  pub room : length b.section.orders < most_live
   pub free : Free b (limit_of b o) (order_hold b o)
 
 pub record CancelPassed (b : Ledger) (n : ℕ) : Type 0 where
@@ -74,8 +74,8 @@ pub record TradePassed (b : Ledger) (t : Trade) : Type 0 where
   pub some : 1 ≤ t.lots
   pub buy_rest : t.lots ≤ (order_at b t.buy).rest
   pub sell_rest : t.lots ≤ (order_at b t.sell).rest
-  pub number : b.desk.last_contract < t.contract
-  pub room : length b.desk.contracts < most_live
+  pub number : b.section.last_contract < t.contract
+  pub room : length b.section.contracts < most_live
 
 pub record RatingPassed (b : Ledger) (i rate : ℕ) : Type 0 where
   pub row : has_row b i ≡ true
@@ -84,20 +84,20 @@ pub record RatingPassed (b : Ledger) (i rate : ℕ) : Type 0 where
 pub record FundingPassed (b : Ledger) (n : ℕ) : Type 0 where
   pub live : contract_live b n ≡ true
   pub unfunded : is_funded (contract_at b n).state ≡ false
-  pub day : b.desk.day ≤ (contract_at b n).funding
+  pub day : b.section.day ≤ (contract_at b n).funding
   pub free : Free b (clearing_of (contract_at b n).buyer) (value (contract_at b n))
 
 pub record DeliveryPassed (b : Ledger) (n kg : ℕ) : Type 0 where
   pub live : contract_live b n ≡ true
   pub funded : is_funded (contract_at b n).state ≡ true
   pub report : good_report kg ≡ true
-  pub day : (not (warehoused (contract_row b n).kind) && ltb ((contract_at b n).delivery + 4) b.desk.day) ≡ false
+  pub day : (not (warehoused (contract_row b n).kind) && ltb ((contract_at b n).delivery + 4) b.section.day) ≡ false
 
 pub record DefaultPassed (b : Ledger) (n : ℕ) : Type 0 where
   pub live : contract_live b n ≡ true
-  pub buyer_late : (not (is_funded (contract_at b n).state) && leb b.desk.day (contract_at b n).funding) ≡ false
+  pub buyer_late : (not (is_funded (contract_at b n).state) && leb b.section.day (contract_at b n).funding) ≡ false
   pub ships : (is_funded (contract_at b n).state && warehoused (contract_row b n).kind) ≡ false
-  pub seller_late : (is_funded (contract_at b n).state && ltb b.desk.day ((contract_at b n).delivery + 5)) ≡ false
+  pub seller_late : (is_funded (contract_at b n).state && ltb b.section.day ((contract_at b n).delivery + 5)) ≡ false
 
 abbrev pub EventPassed : Ledger → ℕ → Event → Type 0
 EventPassed b n Funding = FundingPassed b n
@@ -155,8 +155,8 @@ order_passed b o (member, (row, (good, (today, (number, (room, (free, end)))))))
       lots = lots.0;
       last = lots.1;
       today = today;
-      number = leb-false o.number b.desk.last_order number;
-      room = leb-false most_live (length b.desk.orders) room;
+      number = leb-false o.number b.section.last_order number;
+      room = leb-false most_live (length b.section.orders) room;
       free = free_order_from b o.member o.instrument (order_hold b o) (is_in_goods b o) free;
     }
 
@@ -205,8 +205,8 @@ trade_passed b t (live, (match, (fill, (number, (room, end))))) =
       some = leb-true 1 t.lots lots.0;
       buy_rest = leb-true t.lots buy.rest rests.0;
       sell_rest = leb-true t.lots sell.rest rests.1;
-      number = leb-false t.contract b.desk.last_contract number;
-      room = leb-false most_live (length b.desk.contracts) room;
+      number = leb-false t.contract b.section.last_contract number;
+      room = leb-false most_live (length b.section.contracts) room;
     }
 
 event_passed : (b : Ledger) (n : ℕ) (e : Event) → AllFalse (checks b (Settle n e)) → EventPassed b n e
@@ -214,7 +214,7 @@ event_passed b n Funding (live, (unfunded, (day, (free, end)))) =
     record {
       live = not-false (contract_live b n) live;
       unfunded = unfunded;
-      day = ltb-false (contract_at b n).funding b.desk.day day;
+      day = ltb-false (contract_at b n).funding b.section.day day;
       free = free_money_from b (contract_at b n).buyer Clearing (value (contract_at b n)) free;
     }
 event_passed b n (Delivery kg) (live, (funded, (report, (day, end)))) =

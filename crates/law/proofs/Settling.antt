@@ -33,10 +33,10 @@ left_of f None k = 0
 left_of f (Some s) k = f (with_state s k)
 
 -- of all that contracts hold, an event changes what its one contract holds
-settled_sum : (f : Contract → ℕ) (b : Ledger) (n : ℕ) (next : Option State) → contract_live b n ≡ true → Distinct number_of b.desk.contracts →
-    sum_by f (settled n next b.desk.contracts) + f (contract_at b n) ≡ sum_by f b.desk.contracts + left_of f next (contract_at b n)
-settled_sum f b n None live apart = omega (arith, sum_without number_of f n b.desk.contracts no_contract apart live)
-settled_sum f b n (Some s) live apart = sum-changed number_of f n (with_state s) b.desk.contracts no_contract apart live
+settled_sum : (f : Contract → ℕ) (b : Ledger) (n : ℕ) (next : Option State) → contract_live b n ≡ true → Distinct number_of b.section.contracts →
+    sum_by f (settled n next b.section.contracts) + f (contract_at b n) ≡ sum_by f b.section.contracts + left_of f next (contract_at b n)
+settled_sum f b n None live apart = omega (arith, sum_without number_of f n b.section.contracts no_contract apart live)
+settled_sum f b n (Some s) live apart = sum-changed number_of f n (with_state s) b.section.contracts no_contract apart live
 
 -- a contract that ends holds no more than one that goes on
 ended_or_less : (f : Contract → ℕ) (v : Bool) (s : State) (k : Contract) → left_of f (cond v None (Some s)) k ≤ f (with_state s k)
@@ -44,13 +44,13 @@ ended_or_less f true s k = omega arith
 ended_or_less f false s k = omega arith
 
 -- what is taken was held by the contract, and is held no more
-given_up : (b : Ledger) (n : ℕ) (e : Event) (l : Limit) → contract_live b n ≡ true → Distinct number_of b.desk.contracts →
+given_up : (b : Ledger) (n : ℕ) (e : Event) (l : Limit) → contract_live b n ≡ true → Distinct number_of b.section.contracts →
     left_of (contract_on b l) (event_state (contract_row b n) (contract_at b n) e) (contract_at b n) + taken_from l (entries b (Settle n e)) ≤ contract_on b l (contract_at b n) → Backed b (Settle n e) l
 given_up b n e l live apart h = inl (omega (arith, settled_sum (contract_on b l) b n (event_state (contract_row b n) (contract_at b n) e) live apart))
 
 -- ---- funding: the due is free
 
-pub funding_backs : (b : Ledger) (n : ℕ) (l : Limit) → FundingPassed b n → Distinct number_of b.desk.contracts → Backed b (Settle n Funding) l
+pub funding_backs : (b : Ledger) (n : ℕ) (l : Limit) → FundingPassed b n → Distinct number_of b.section.contracts → Backed b (Settle n Funding) l
 funding_backs b n l a apart =
     let k = contract_at b n in
     let r = contract_row b n in
@@ -75,7 +75,7 @@ kept_here : (r : Option Row) → warehoused (unwrap_or r no_row).kind ≡ true �
 kept_here None h = let z : ◌≡◌ {A = ℕ} 0 1 = cc in absurd (omega arith)
 kept_here (Some r) h = refl
 
-delivery_takes : (b : Ledger) (n kg : ℕ) (l : Limit) → Proper l → All Low b.desk.rows →
+delivery_takes : (b : Ledger) (n kg : ℕ) (l : Limit) → Proper l → All Low b.section.rows →
     taken_from l (entries b (Settle n (Delivery kg)))
     ≡ share (clearing_of (contract_at b n).buyer) l (payment (contract_row b n) (contract_at b n) kg)
     + share (goods_of (contract_at b n).seller (contract_at b n).instrument) l (cond (warehoused (contract_row b n).kind) (counted (contract_row b n) (contract_at b n) kg) 0)
@@ -87,7 +87,7 @@ delivery_takes b n kg l ok low =
     elim (cases_Bool (warehoused r.kind)) [
       | inl w ↦
           let goods : Takes e.goods (goods_register k.seller k.instrument) (counted r k kg) = λ i. rw w (transfer_takes (goods_register k.seller k.instrument) (goods_register k.buyer k.instrument) (counted r k kg) i) in
-          let here : k.instrument ≤ 15 = low_row b.desk.rows k.instrument low (kept_here (found_row k.instrument b.desk.rows) w) in
+          let here : k.instrument ≤ 15 = low_row b.section.rows k.instrument low (kept_here (found_row k.instrument b.section.rows) w) in
           taken_shares e k.buyer Clearing (payment r k kg) k.seller k.instrument (counted r k kg) money goods here l ok
           ∙ ap (λ v. share (clearing_of k.buyer) l (payment r k kg) + share (goods_of k.seller k.instrument) l (cond v (counted r k kg) 0)) (sym w)
       | inr w ↦
@@ -96,7 +96,7 @@ delivery_takes b n kg l ok low =
           omega (arith, taken_shares e k.buyer Clearing (payment r k kg) 0 0 0 money goods (omega arith) l ok, nothing, share_none (goods_of 0 0) l)
     ]
 
-pub delivery_backs : (b : Ledger) (n kg : ℕ) (l : Limit) → Proper l → DeliveryPassed b n kg → Pays (contract_row b n) (contract_at b n) kg → All Low b.desk.rows → Distinct number_of b.desk.contracts → Backed b (Settle n (Delivery kg)) l
+pub delivery_backs : (b : Ledger) (n kg : ℕ) (l : Limit) → Proper l → DeliveryPassed b n kg → Pays (contract_row b n) (contract_at b n) kg → All Low b.section.rows → Distinct number_of b.section.contracts → Backed b (Settle n (Delivery kg)) l
 delivery_backs b n kg l ok a pays low apart =
     let k = contract_at b n in
     let r = contract_row b n in
@@ -128,7 +128,7 @@ penalty_held b k l =
     let h = contract_shares b l k in
     elim (cases_Bool (is_funded k.state)) [ inl e ↦ rw e (omega (arith, h)) | inr e ↦ rw e (omega (arith, rw e at h)) ]
 
-pub default_backs : (b : Ledger) (n : ℕ) (l : Limit) → Proper l → DefaultPassed b n → Distinct number_of b.desk.contracts → Backed b (Settle n Default) l
+pub default_backs : (b : Ledger) (n : ℕ) (l : Limit) → Proper l → DefaultPassed b n → Distinct number_of b.section.contracts → Backed b (Settle n Default) l
 default_backs b n l ok a apart =
     let k = contract_at b n in
     let r = contract_row b n in

@@ -8,8 +8,8 @@ use Rattle.rules.specs.declared.contracts.Trade.{Trade}
 use Rattle.rules.specs.declared.calls.Call.{Call}
 use Rattle.rules.specs.declared.calls.Call.TheVariants.{Deposit, Withdraw, Shift, DepositGoods, WithdrawGoods, Place, Cancel, Execute, Rerate, EndTrading, Settle, EndSession}
 use Rattle.rules.specs.Holds.{payment_to_date}
-use Rattle.rules.specs.Limits.{Ledger, Desk, row_of, no_trade, no_order, clearing, clearing_holds, stock, goods_holds}
-use Rattle.rules.specs.Effects.{desk_after}
+use Rattle.rules.specs.Limits.{Ledger, Section, row_of, no_trade, no_order, clearing, clearing_holds, stock, goods_holds}
+use Rattle.rules.specs.Effects.{section_after}
 use Rattle.rules.specs.Runs.{Step, reached, Run}
 use Rattle.rules.specs.History.{Done, accepted, trade_in, order_in, row_in, instrument_in, kilograms_in, payments_in, endings, money_taken, goods_taken}
 use Rattle.rules.specs.Law.{Start, opened, rows_of}
@@ -28,12 +28,12 @@ use Rattle.law.proofs.Sound.{Sound, sound_at_opening, sound_kept}
 
 -- ---- the tie
 
-tie_kept : (rows : List Row) (past : List Done) (b : Ledger) (c : Call) → Accepts b c → Tie rows past b.desk → Tie rows (past ++ done b c ∷ []) (desk_after b c)
-tie_kept rows past b (Deposit m p x) a k = quiet rows past (done b (Deposit m p x)) b.desk refl refl (λ n. refl) k
-tie_kept rows past b (Withdraw m p x) a k = quiet rows past (done b (Withdraw m p x)) b.desk refl refl (λ n. refl) k
-tie_kept rows past b (Shift m p x) a k = quiet rows past (done b (Shift m p x)) b.desk refl refl (λ n. refl) k
-tie_kept rows past b (DepositGoods m i x) a k = quiet rows past (done b (DepositGoods m i x)) b.desk refl refl (λ n. refl) k
-tie_kept rows past b (WithdrawGoods m i x) a k = quiet rows past (done b (WithdrawGoods m i x)) b.desk refl refl (λ n. refl) k
+tie_kept : (rows : List Row) (past : List Done) (b : Ledger) (c : Call) → Accepts b c → Tie rows past b.section → Tie rows (past ++ done b c ∷ []) (section_after b c)
+tie_kept rows past b (Deposit m p x) a k = quiet rows past (done b (Deposit m p x)) b.section refl refl (λ n. refl) k
+tie_kept rows past b (Withdraw m p x) a k = quiet rows past (done b (Withdraw m p x)) b.section refl refl (λ n. refl) k
+tie_kept rows past b (Shift m p x) a k = quiet rows past (done b (Shift m p x)) b.section refl refl (λ n. refl) k
+tie_kept rows past b (DepositGoods m i x) a k = quiet rows past (done b (DepositGoods m i x)) b.section refl refl (λ n. refl) k
+tie_kept rows past b (WithdrawGoods m i x) a k = quiet rows past (done b (WithdrawGoods m i x)) b.section refl refl (λ n. refl) k
 tie_kept rows past b (Place o) a k = keeps_order rows past b o a k
 tie_kept rows past b (Cancel n) a k = keeps_cancel rows past b n k
 tie_kept rows past b (Execute t) a k = keeps_trade rows past b t a k
@@ -42,7 +42,7 @@ tie_kept rows past b EndTrading a k = keeps_closing rows past b k
 tie_kept rows past b (Settle n e) a k = keeps_event rows past b n e a k
 tie_kept rows past b EndSession a k = keeps_next_day rows past b k
 
-tie_at_opening : (o : Start) → Tie (rows_of o) [] (opened o).ledger.desk
+tie_at_opening : (o : Start) → Tie (rows_of o) [] (opened o).ledger.section
 tie_at_opening o =
     record {
       rows = λ i. refl;
@@ -57,7 +57,7 @@ tie_at_opening o =
 -- ---- the invariant of runs
 
 pub record Kept (rows : List Row) (xs ys : List ℕ) (past : List Done) (b : Ledger) : Type 0 where
-  pub tie : Tie rows past b.desk
+  pub tie : Tie rows past b.section
   pub balanced : Balanced rows xs ys past b
   pub sound : Sound b
 
@@ -79,10 +79,10 @@ kept_by_runs o fair steps run =
 
 -- ---- what it gives at a point
 
-ended_once : (rows : List Row) (past : List Done) (d : Desk) (n : ℕ) → Tie rows past d → endings rows [] past n ≤ 1
+ended_once : (rows : List Row) (past : List Done) (d : Section) (n : ℕ) → Tie rows past d → endings rows [] past n ≤ 1
 ended_once rows past d n c = elim (some_or_none (traded past n)) [ inl e ↦ omega (arith, (c.untraded n e).endings) | inr (t, e) ↦ (c.deals n t e).once ]
 
-paid_in_all : (rows : List Row) (past : List Done) (d : Desk) (n : ℕ) → Tie rows past d → payments_in past n ≡ payment_to_date (row_in rows past n) (trade_in past n).price (kilograms_in past n)
+paid_in_all : (rows : List Row) (past : List Done) (d : Section) (n : ℕ) → Tie rows past d → payments_in past n ≡ payment_to_date (row_in rows past n) (trade_in past n).price (kilograms_in past n)
 paid_in_all rows past d n c =
     elim (some_or_none (traded past n)) [
       | inl e ↦ let z = c.untraded n e in z.payments ∙ sym (ap (payment_to_date (row_in rows past n) (trade_in past n).price) z.kilograms ∙ paid_for_none (row_in rows past n) (trade_in past n).price)
@@ -111,6 +111,6 @@ always o fair steps run =
       goods_balance = λ r. ap (λ (xs : List ℕ). get_or xs r 0 + goods_taken (rows_of o) past r) goods ∙ k.balanced.goods r;
       clearing_free = λ m. not_below (clearing b m) (clearing_holds b m) (omega (arith, clearing_held b m, k.sound.covered (clearing_of m) tt));
       goods_free = λ m i l. not_below (stock b m i) (goods_holds b m i) (k.sound.covered (goods_of m i) l);
-      ended_once = λ n. ended_once (rows_of o) past b.desk n k.tie;
-      paid = λ n. paid_in_all (rows_of o) past b.desk n k.tie;
+      ended_once = λ n. ended_once (rows_of o) past b.section n k.tie;
+      paid = λ n. paid_in_all (rows_of o) past b.section n k.tie;
     }

@@ -1,4 +1,4 @@
--- What ties the desk to the accepted calls that led to it, and what one more call leaves of it.
+-- What ties the section to the accepted calls that led to it, and what one more call leaves of it.
 use Rattle.std.proofs.Common.{◌≡◌, ℕ, ◌<◌, ◌≤◌, cond, ltb, List, [], ◌∷◌, ◌++◌, Some, None, count_by, Option, ◌∙◌, arith}
 use Rattle.std.specs.List.{flat_map, AllByRecursion as All}
 use Rattle.std.proofs.lemmas.List.Sums.{sum_by_push}
@@ -9,7 +9,7 @@ use Rattle.rules.specs.declared.contracts.Trade.{Trade}
 use Rattle.rules.specs.declared.contracts.Contract.{Contract}
 use Rattle.rules.specs.Terms.{found}
 use Rattle.rules.specs.Holds.{is_funded, delivered, payments, payment_to_date, full_weight}
-use Rattle.rules.specs.Limits.{Desk, row_of}
+use Rattle.rules.specs.Limits.{Section, row_of}
 use Rattle.rules.specs.History.{Done, placed, executed, event_on, is_funding, is_delivery, endings, kilograms_in, payments_in}
 use Rattle.law.proofs.Lists.{joined_push, found_before}
 use Rattle.law.proofs.Rows.{Alike}
@@ -61,8 +61,8 @@ pub record Live (rows : List Row) (past : List Done) (k : Contract) : Type 0 whe
 abbrev pub KnownOrder : List Done → LiveOrder → Type 0
 KnownOrder past o = ordered past o.order.number ≡ Some o.order
 
--- the desk beside the accepted calls: its rows are the opening's at other rates, what is live was accepted, and what was traded is paid as it was delivered
-pub record Tie (rs : List Row) (past : List Done) (d : Desk) : Type 0 where
+-- the section beside the accepted calls: its rows are the opening's at other rates, what is live was accepted, and what was traded is paid as it was delivered
+pub record Tie (rs : List Row) (past : List Done) (d : Section) : Type 0 where
   pub rows : (i : ℕ) → Alike (row_of d.rows i) (row_of rs i)
   pub orders : All (KnownOrder past) d.orders
   pub unordered : (n : ℕ) → d.last_order < n → ordered past n ≡ None

@@ -1,4 +1,4 @@
--- Each accepted call but an event keeps the tie between the desk and the accepted calls.
+-- Each accepted call but an event keeps the tie between the section and the accepted calls.
 use Rattle.std.proofs.Common.{◌≡◌, ℕ, ◌<◌, Bool, true, ◌||◌, eqb, List, [], ◌∷◌, ◌++◌, map, Some, None, filter, sym, refl, ap, ◌∙◌, subst, inl, inr, append-nil, arith}
 use Rattle.std.specs.List.{flat_map, AllByRecursion as All}
 use Rattle.std.proofs.ByRecursion.{All-weaker, all_kept_by, All-map, All-push}
@@ -10,9 +10,9 @@ use Rattle.rules.specs.declared.contracts.Trade.{Trade}
 use Rattle.rules.specs.declared.contracts.Contract.{Contract}
 use Rattle.rules.specs.declared.calls.Call.TheVariants.{Place, Cancel, Execute, Rerate, EndTrading, EndSession}
 use Rattle.rules.specs.Terms.{found}
-use Rattle.rules.specs.Limits.{Desk, Ledger, row_of, order_live, order_at, no_live_order}
+use Rattle.rules.specs.Limits.{Section, Ledger, row_of, order_live, order_at, no_live_order}
 use Rattle.rules.specs.Orders.{other_order, goes_on, has_rest, lowered_by, contract_of, unfilled}
-use Rattle.rules.specs.Effects.{desk_after}
+use Rattle.rules.specs.Effects.{section_after}
 use Rattle.rules.specs.History.{Done, placed, executed, event_on}
 use Rattle.rules.proofs.Payments.{paid_for_none}
 use Rattle.law.proofs.Lists.{joined_push, found_later, found_none, found_has, some_or_none}
@@ -34,7 +34,7 @@ pub contracts_stay : (rows : List Row) (past : List Done) (d : Done) → ((n : �
 contracts_stay rows past d e ks h = All-weaker (Live rows past) (Live rows (past ++ d ∷ [])) (λ k. live_stays rows past d k (e k.trade.contract)) ks h
 
 -- a call that places nothing, trades nothing and settles nothing
-pub quiet : (rows : List Row) (past : List Done) (d : Done) (k : Desk) → placed d.call ≡ [] → executed d.call ≡ [] → ((n : ℕ) → event_on n d.call ≡ None) → Tie rows past k → Tie rows (past ++ d ∷ []) k
+pub quiet : (rows : List Row) (past : List Done) (d : Done) (k : Section) → placed d.call ≡ [] → executed d.call ≡ [] → ((n : ℕ) → event_on n d.call ≡ None) → Tie rows past k → Tie rows (past ++ d ∷ []) k
 quiet rows past d k p t e c =
     record {
       rows = c.rows;
@@ -47,7 +47,7 @@ quiet rows past d k p t e c =
     }
 
 -- fewer live orders
-fewer : (rows : List Row) (past : List Done) (d e : Desk) (p : LiveOrder → Bool) → e.rows ≡ d.rows → e.orders ≡ filter p d.orders → e.contracts ≡ d.contracts → e.last_order ≡ d.last_order → e.last_contract ≡ d.last_contract → Tie rows past d → Tie rows past e
+fewer : (rows : List Row) (past : List Done) (d e : Section) (p : LiveOrder → Bool) → e.rows ≡ d.rows → e.orders ≡ filter p d.orders → e.contracts ≡ d.contracts → e.last_order ≡ d.last_order → e.last_contract ≡ d.last_contract → Tie rows past d → Tie rows past e
 fewer rows past d e p r o k lo lk c =
     record {
       rows = λ i. rw r (c.rows i);
@@ -60,32 +60,32 @@ fewer rows past d e p r o k lo lk c =
     }
 
 -- a new order
-pub keeps_order : (rows : List Row) (past : List Done) (b : Ledger) (o : Order) → Accepts b (Place o) → Tie rows past b.desk → Tie rows (past ++ done b (Place o) ∷ []) (desk_after b (Place o))
+pub keeps_order : (rows : List Row) (past : List Done) (b : Ledger) (o : Order) → Accepts b (Place o) → Tie rows past b.section → Tie rows (past ++ done b (Place o) ∷ []) (section_after b (Place o))
 keeps_order rows past b o a c =
     let d = done b (Place o) in
-    let above : b.desk.last_order < o.number = a.passed.number in
-    let none : (n : ℕ) → b.desk.last_order < n → ordered (past ++ d ∷ []) n ≡ found (λ (x : Order). x.number) n (o ∷ []) = λ n h. ap (found (λ (x : Order). x.number) n) (joined_push (λ (x : Done). placed x.call) past d) ∙ found_later (λ (x : Order). x.number) n (flat_map (λ (x : Done). placed x.call) past) (o ∷ []) (c.unordered n h) in
+    let above : b.section.last_order < o.number = a.passed.number in
+    let none : (n : ℕ) → b.section.last_order < n → ordered (past ++ d ∷ []) n ≡ found (λ (x : Order). x.number) n (o ∷ []) = λ n h. ap (found (λ (x : Order). x.number) n) (joined_push (λ (x : Done). placed x.call) past d) ∙ found_later (λ (x : Order). x.number) n (flat_map (λ (x : Done). placed x.call) past) (o ∷ []) (c.unordered n h) in
     record {
       rows = c.rows;
-      orders = All-push (KnownOrder (past ++ d ∷ [])) b.desk.orders (unfilled o) (orders_stay past d b.desk.orders c.orders) (none o.number above ∙ rw (eq-eqb o.number o.number refl) refl);
+      orders = All-push (KnownOrder (past ++ d ∷ [])) b.section.orders (unfilled o) (orders_stay past d b.section.orders c.orders) (none o.number above ∙ rw (eq-eqb o.number o.number refl) refl);
       unordered = λ n h. none n (omega arith) ∙ rw (ne_eqb o.number n (omega arith)) refl;
-      contracts = contracts_stay rows past d (λ n. refl) b.desk.contracts c.contracts;
+      contracts = contracts_stay rows past d (λ n. refl) b.section.contracts c.contracts;
       fresh = λ n h. traded_same past d n refl ∙ c.fresh n h;
       untraded = λ n h. blank_stays rows past d n refl (c.untraded n (sym (traded_same past d n refl) ∙ h));
       deals = λ n x h. deal_stays rows past d n x refl (c.deals n x (sym (traded_same past d n refl) ∙ h));
     }
 
-pub keeps_cancel : (rows : List Row) (past : List Done) (b : Ledger) (n : ℕ) → Tie rows past b.desk → Tie rows (past ++ done b (Cancel n) ∷ []) (desk_after b (Cancel n))
-keeps_cancel rows past b n c = fewer rows (past ++ done b (Cancel n) ∷ []) b.desk (desk_after b (Cancel n)) (other_order n) refl refl refl refl refl (quiet rows past (done b (Cancel n)) b.desk refl refl (λ n. refl) c)
+pub keeps_cancel : (rows : List Row) (past : List Done) (b : Ledger) (n : ℕ) → Tie rows past b.section → Tie rows (past ++ done b (Cancel n) ∷ []) (section_after b (Cancel n))
+keeps_cancel rows past b n c = fewer rows (past ++ done b (Cancel n) ∷ []) b.section (section_after b (Cancel n)) (other_order n) refl refl refl refl refl (quiet rows past (done b (Cancel n)) b.section refl refl (λ n. refl) c)
 
-pub keeps_closing : (rows : List Row) (past : List Done) (b : Ledger) → Tie rows past b.desk → Tie rows (past ++ done b EndTrading ∷ []) (desk_after b EndTrading)
-keeps_closing rows past b c = fewer rows (past ++ done b EndTrading ∷ []) b.desk (desk_after b EndTrading) (goes_on b.desk.day) refl refl refl refl refl (quiet rows past (done b EndTrading) b.desk refl refl (λ n. refl) c)
+pub keeps_closing : (rows : List Row) (past : List Done) (b : Ledger) → Tie rows past b.section → Tie rows (past ++ done b EndTrading ∷ []) (section_after b EndTrading)
+keeps_closing rows past b c = fewer rows (past ++ done b EndTrading ∷ []) b.section (section_after b EndTrading) (goes_on b.section.day) refl refl refl refl refl (quiet rows past (done b EndTrading) b.section refl refl (λ n. refl) c)
 
-pub keeps_rating : (rows : List Row) (past : List Done) (b : Ledger) (i rate : ℕ) → Tie rows past b.desk → Tie rows (past ++ done b (Rerate i rate) ∷ []) (desk_after b (Rerate i rate))
+pub keeps_rating : (rows : List Row) (past : List Done) (b : Ledger) (i rate : ℕ) → Tie rows past b.section → Tie rows (past ++ done b (Rerate i rate) ∷ []) (section_after b (Rerate i rate))
 keeps_rating rows past b i rate c =
-    let q = quiet rows past (done b (Rerate i rate)) b.desk refl refl (λ n. refl) c in
+    let q = quiet rows past (done b (Rerate i rate)) b.section refl refl (λ n. refl) c in
     record {
-      rows = λ j. rerated_alike j i rate b.desk.rows ∙ q.rows j;
+      rows = λ j. rerated_alike j i rate b.section.rows ∙ q.rows j;
       orders = q.orders;
       unordered = q.unordered;
       contracts = q.contracts;
@@ -94,9 +94,9 @@ keeps_rating rows past b i rate c =
       deals = q.deals;
     }
 
-pub keeps_next_day : (rows : List Row) (past : List Done) (b : Ledger) → Tie rows past b.desk → Tie rows (past ++ done b EndSession ∷ []) (desk_after b EndSession)
+pub keeps_next_day : (rows : List Row) (past : List Done) (b : Ledger) → Tie rows past b.section → Tie rows (past ++ done b EndSession ∷ []) (section_after b EndSession)
 keeps_next_day rows past b c =
-    let q = quiet rows past (done b EndSession) b.desk refl refl (λ n. refl) c in
+    let q = quiet rows past (done b EndSession) b.section refl refl (λ n. refl) c in
     record { rows = q.rows; orders = q.orders; unordered = q.unordered; contracts = q.contracts; fresh = q.fresh; untraded = q.untraded; deals = q.deals }
 
 known_lowered : (past : List Done) (t : Trade) (o : LiveOrder) → KnownOrder past o → KnownOrder past (lowered_by t o)
@@ -104,22 +104,22 @@ known_lowered past t o h =
     elim (cases_Bool (eqb o.order.number t.buy || eqb o.order.number t.sell)) [ inl e ↦ simp e h | inr e ↦ simp e h ]
 
 -- a live order is an accepted one
-live_order_known : (past : List Done) (b : Ledger) (n : ℕ) → order_live b n ≡ true → All (KnownOrder past) b.desk.orders → ordered past n ≡ Some (order_at b n).order
+live_order_known : (past : List Done) (b : Ledger) (n : ℕ) → order_live b n ≡ true → All (KnownOrder past) b.section.orders → ordered past n ≡ Some (order_at b n).order
 live_order_known past b n h a =
-    let k = found_has (λ (o : LiveOrder). o.order.number) (KnownOrder past) n b.desk.orders no_live_order h a in
+    let k = found_has (λ (o : LiveOrder). o.order.number) (KnownOrder past) n b.section.orders no_live_order h a in
     rw k.1 at k.0
 
 -- a trade of nothing yet paid
 new_deal : (rows : List Row) (past : List Done) (n : ℕ) (t : Trade) → Blank rows past n → Sides past t → Deal rows past n t
 new_deal rows past n t e s = record { sides = s; once = rw e.endings (omega arith); paid = rw (e.payments, e.kilograms) (sym (paid_for_none (row_of rows s.bought.instrument) t.price)); within = rw e.kilograms (omega arith) }
 
-pub keeps_trade : (rows : List Row) (past : List Done) (b : Ledger) (t : Trade) → Accepts b (Execute t) → Tie rows past b.desk → Tie rows (past ++ done b (Execute t) ∷ []) (desk_after b (Execute t))
+pub keeps_trade : (rows : List Row) (past : List Done) (b : Ledger) (t : Trade) → Accepts b (Execute t) → Tie rows past b.section → Tie rows (past ++ done b (Execute t) ∷ []) (section_after b (Execute t))
 keeps_trade rows past b t a c =
     let d = done b (Execute t) in
     let number = λ (x : Trade). x.contract in
     let before = flat_map (λ (x : Done). executed x.call) past in
     let pushed : (n : ℕ) → traded (past ++ d ∷ []) n ≡ found number n (before ++ t ∷ []) = λ n. ap (found number n) (joined_push (λ (x : Done). executed x.call) past d) in
-    let above : b.desk.last_contract < t.contract = a.passed.number in
+    let above : b.section.last_contract < t.contract = a.passed.number in
     let none : (n : ℕ) → traded past n ≡ None → traded (past ++ d ∷ []) n ≡ found number n (t ∷ []) = λ n h. pushed n ∙ found_later number n before (t ∷ []) h in
     let new : traded (past ++ d ∷ []) t.contract ≡ Some t = none t.contract (c.fresh t.contract above) ∙ rw (eq-eqb t.contract t.contract refl) refl in
     let sides : Sides (past ++ d ∷ []) t =
@@ -134,11 +134,11 @@ keeps_trade rows past b t a c =
     let clean = blank t.contract (c.fresh t.contract above) in
     record {
       rows = c.rows;
-      orders = all_kept_by has_rest (KnownOrder (past ++ d ∷ [])) (map (lowered_by t) b.desk.orders)
-          (All-map (KnownOrder (past ++ d ∷ [])) (lowered_by t) b.desk.orders
-          (All-weaker (KnownOrder past) (λ o. KnownOrder (past ++ d ∷ []) (lowered_by t o)) (λ o h. known_lowered (past ++ d ∷ []) t o (ordered_stays past d o.order.number o.order h)) b.desk.orders c.orders));
+      orders = all_kept_by has_rest (KnownOrder (past ++ d ∷ [])) (map (lowered_by t) b.section.orders)
+          (All-map (KnownOrder (past ++ d ∷ [])) (lowered_by t) b.section.orders
+          (All-weaker (KnownOrder past) (λ o. KnownOrder (past ++ d ∷ []) (lowered_by t o)) (λ o h. known_lowered (past ++ d ∷ []) t o (ordered_stays past d o.order.number o.order h)) b.section.orders c.orders));
       unordered = λ n h. ordered_same past d n refl ∙ c.unordered n h;
-      contracts = All-push (Live rows (past ++ d ∷ [])) b.desk.contracts (contract_of b t) (contracts_stay rows past d (λ n. refl) b.desk.contracts c.contracts)
+      contracts = All-push (Live rows (past ++ d ∷ [])) b.section.contracts (contract_of b t) (contracts_stay rows past d (λ n. refl) b.section.contracts c.contracts)
           (record { trade = new; sides = sides; buyer = refl; seller = refl; instrument = refl; funded = rw clean.fundings refl; kilograms = clean.kilograms; payments = clean.payments; unended = clean.endings });
       fresh = λ n h. none n (c.fresh n (omega arith)) ∙ rw (ne_eqb t.contract n (omega arith)) refl;
       untraded = λ n h. blank n (found_none number n before (t ∷ []) (sym (pushed n) ∙ h));

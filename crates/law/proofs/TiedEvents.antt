@@ -1,4 +1,4 @@
--- Each event of a live contract keeps the tie between the desk and the accepted calls.
+-- Each event of a live contract keeps the tie between the section and the accepted calls.
 use Rattle.std.proofs.Common.{◌≡◌, ℕ, ◌+◌, ◌≤◌, true, false, cond, ◌&&◌, ◌||◌, eqb, ltb, List, [], ◌∷◌, ◌++◌, Some, None, Option, unwrap_or, sym, refl, ap, ◌∙◌, subst, inl, inr, add-zero, zero-add, arith}
 use Rattle.std.specs.List.{AllByRecursion as All}
 use Rattle.std.proofs.lemmas.List.Sums.{sum_by_push}
@@ -16,7 +16,7 @@ use Rattle.rules.specs.declared.calls.Call.TheVariants.{Settle}
 use Rattle.rules.specs.Holds.{is_funded, delivered, payments, value, payment_to_date, full_weight, fully_delivered}
 use Rattle.rules.specs.Limits.{Ledger, row_of, no_trade, no_order, no_contract, contract_live, contract_at, contract_row}
 use Rattle.rules.specs.Settling.{counted, delivered_after, payment, event_state}
-use Rattle.rules.specs.Effects.{in_state, settled, other_contract, with_contracts, desk_after}
+use Rattle.rules.specs.Effects.{in_state, settled, other_contract, with_contracts, section_after}
 use Rattle.rules.specs.History.{Done, placed, executed, event_on, if_same, is_funding, is_delivery, is_default, endings, kilograms_in, payments_in, row_in, trade_in, order_in, buyer_in, seller_in, instrument_in, funded_in}
 use Rattle.rules.proofs.Payments.{paid_rises, paid_within}
 use Rattle.law.proofs.Lists.{found_has, all_kept_when}
@@ -29,7 +29,7 @@ use Rattle.law.proofs.TiedCalls.{orders_stay, ordered_same, traded_same}
 
 -- ---- what the accepted calls tell of a live contract
 
-pub record Told (rows : List Row) (past : List Done) (b : Ledger) (n : ℕ) : Type 0 where
+pub record Response (rows : List Row) (past : List Done) (b : Ledger) (n : ℕ) : Type 0 where
   pub number : (contract_at b n).trade.contract ≡ n
   pub live : Live rows past (contract_at b n)
   pub trade : trade_in past n ≡ (contract_at b n).trade
@@ -48,10 +48,10 @@ pub record Told (rows : List Row) (past : List Done) (b : Ledger) (n : ℕ) : Ty
 same_weight : (r s : Row) → Alike r s → (lots : ℕ) → full_weight r lots ≡ full_weight s lots
 same_weight r s e lots = alike (λ x. full_weight x lots) (λ x. refl) r s e
 
-pub told_at : (rows : List Row) (past : List Done) (b : Ledger) (n : ℕ) → contract_live b n ≡ true → Tie rows past b.desk → Told rows past b n
-told_at rows past b n h c =
+pub response_at : (rows : List Row) (past : List Done) (b : Ledger) (n : ℕ) → contract_live b n ≡ true → Tie rows past b.section → Response rows past b n
+response_at rows past b n h c =
     let k = contract_at b n in
-    let f = found_has (λ (x : Contract). x.trade.contract) (Live rows past) n b.desk.contracts no_contract h c.contracts in
+    let f = found_has (λ (x : Contract). x.trade.contract) (Live rows past) n b.section.contracts no_contract h c.contracts in
     let l : Live rows past k = f.0 in
     let same : k.trade.contract ≡ n = f.1 in
     let had : traded past n ≡ Some k.trade = subst (λ i. traded past i ≡ Some k.trade) same l.trade in
@@ -134,14 +134,14 @@ pub record Leaves (rows : List Row) (past : List Done) (b : Ledger) (n : ℕ) (n
   pub left : Left rows past n next
 
 settle_keeps : (rows : List Row) (past : List Done) (b : Ledger) (d : Done) (n : ℕ) (e : Event) (next : Option State) → d.call ≡ Settle n e →
-    Told rows past b n → Leaves rows (past ++ d ∷ []) b n next → Tie rows past b.desk → Tie rows (past ++ d ∷ []) (with_contracts b.desk (settled n next b.desk.contracts))
-settle_keeps rows past b d n e next is told leaves c =
+    Response rows past b n → Leaves rows (past ++ d ∷ []) b n next → Tie rows past b.section → Tie rows (past ++ d ∷ []) (with_contracts b.section (settled n next b.section.contracts))
+settle_keeps rows past b d n e next is responses leaves c =
     let k = contract_at b n in
-    let l = told.live in
+    let l = responses.live in
     let now = past ++ d ∷ [] in
     let p : placed d.call ≡ [] = rw is refl in
     let t : executed d.call ≡ [] = rw is refl in
-    let had : traded past n ≡ Some k.trade = subst (λ i. traded past i ≡ Some k.trade) told.number l.trade in
+    let had : traded past n ≡ Some k.trade = subst (λ i. traded past i ≡ Some k.trade) responses.number l.trade in
     let quiet_at : (m : ℕ) → (n ≡ m → ⊥) → event_on m d.call ≡ None = λ m h. rw is (other_event n m e h) in
     let opening = row_of rows k.instrument in
     let row : Alike (contract_row b n) opening = c.rows k.instrument in
@@ -149,9 +149,9 @@ settle_keeps rows past b d n e next is told leaves c =
     let within : kilograms_in now n ≤ full_weight opening k.trade.lots = omega (arith, leaves.within, same_weight (contract_row b n) opening row k.trade.lots) in
     record {
       rows = c.rows;
-      orders = orders_stay past d b.desk.orders c.orders;
+      orders = orders_stay past d b.section.orders c.orders;
       unordered = λ m h. ordered_same past d m p ∙ c.unordered m h;
-      contracts = contracts_settled rows past d n e next is leaves.left b.desk.contracts c.contracts;
+      contracts = contracts_settled rows past d n e next is leaves.left b.section.contracts c.contracts;
       fresh = λ m h. traded_same past d m t ∙ c.fresh m h;
       untraded = λ m h. let g : traded past m ≡ None = sym (traded_same past d m t) ∙ h in
           blank_stays rows past d m (quiet_at m (λ x. let y : traded past n ≡ None = rw x g in let z : ◌≡◌ {A = ℕ} 0 1 = cc in omega arith)) (c.untraded m g);
@@ -197,7 +197,7 @@ same_event n e = rw (eq-eqb n n refl) refl
 -- ---- the three events
 
 -- an event that delivers nothing
-nothing_delivered : (rows : List Row) (past : List Done) (b : Ledger) (d : Done) (n : ℕ) (v : Option Event) (next : Option State) → is_delivery v ≡ false → Added rows past d n v → Told rows past b n →
+nothing_delivered : (rows : List Row) (past : List Done) (b : Ledger) (d : Done) (n : ℕ) (v : Option Event) (next : Option State) → is_delivery v ≡ false → Added rows past d n v → Response rows past b n →
     endings rows [] (past ++ d ∷ []) n ≤ 1 → Left rows (past ++ d ∷ []) n next → Leaves rows (past ++ d ∷ []) b n next
 nothing_delivered rows past b d n v next none u t once left =
     let kilograms : kilograms_in (past ++ d ∷ []) n ≡ delivered (contract_at b n).state = u.kilograms ∙ rw none (add-zero (kilograms_in past n)) ∙ t.kilograms in
@@ -209,10 +209,10 @@ nothing_delivered rows past b d n v next none u t once left =
       left = left;
     }
 
-keeps_funding : (rows : List Row) (past : List Done) (b : Ledger) (n : ℕ) → Accepts b (Settle n Funding) → Tie rows past b.desk → Tie rows (past ++ done b (Settle n Funding) ∷ []) (desk_after b (Settle n Funding))
+keeps_funding : (rows : List Row) (past : List Done) (b : Ledger) (n : ℕ) → Accepts b (Settle n Funding) → Tie rows past b.section → Tie rows (past ++ done b (Settle n Funding) ∷ []) (section_after b (Settle n Funding))
 keeps_funding rows past b n a c =
     let d = done b (Settle n Funding) in
-    let t = told_at rows past b n a.passed.live c in
+    let t = response_at rows past b n a.passed.live c in
     let u = added rows past d n (Some Funding) (same_event n Funding) in
     let z = unfunded (contract_at b n).state a.passed.unfunded in
     settle_keeps rows past b d n Funding (Some (Funded 0 0)) refl t
@@ -225,10 +225,10 @@ keeps_funding rows past b n a c =
     }))
     c
 
-keeps_default : (rows : List Row) (past : List Done) (b : Ledger) (n : ℕ) → Accepts b (Settle n Default) → Tie rows past b.desk → Tie rows (past ++ done b (Settle n Default) ∷ []) (desk_after b (Settle n Default))
+keeps_default : (rows : List Row) (past : List Done) (b : Ledger) (n : ℕ) → Accepts b (Settle n Default) → Tie rows past b.section → Tie rows (past ++ done b (Settle n Default) ∷ []) (section_after b (Settle n Default))
 keeps_default rows past b n a c =
     let d = done b (Settle n Default) in
-    let t = told_at rows past b n a.passed.live c in
+    let t = response_at rows past b n a.passed.live c in
     let u = added rows past d n (Some Default) (same_event n Default) in
     settle_keeps rows past b d n Default None refl t (nothing_delivered rows past b d n (Some Default) None refl u t (omega (arith, u.endings, t.unended)) tt) c
 
@@ -242,7 +242,7 @@ pub record Pays (r : Row) (k : Contract) (kg : ℕ) : Type 0 where
   pub within : delivered_after r k kg ≤ full_weight r k.trade.lots
   pub owed : payments k.state + payment r k kg ≤ value k
 
-pub pays : (rows : List Row) (past : List Done) (b : Ledger) (n kg : ℕ) → Told rows past b n → Pays (contract_row b n) (contract_at b n) kg
+pub pays : (rows : List Row) (past : List Done) (b : Ledger) (n kg : ℕ) → Response rows past b n → Pays (contract_row b n) (contract_at b n) kg
 pays rows past b n kg t =
     let k = contract_at b n in
     let r = contract_row b n in
@@ -251,12 +251,12 @@ pays rows past b n kg t =
     let within = counted_within r k kg t.within in
     record { all = all; within = within; owed = omega (arith, all, paid_within r k.trade.price k.trade.lots (delivered_after r k kg) within) }
 
-keeps_delivery : (rows : List Row) (past : List Done) (b : Ledger) (n kg : ℕ) → Accepts b (Settle n (Delivery kg)) → Tie rows past b.desk → Tie rows (past ++ done b (Settle n (Delivery kg)) ∷ []) (desk_after b (Settle n (Delivery kg)))
+keeps_delivery : (rows : List Row) (past : List Done) (b : Ledger) (n kg : ℕ) → Accepts b (Settle n (Delivery kg)) → Tie rows past b.section → Tie rows (past ++ done b (Settle n (Delivery kg)) ∷ []) (section_after b (Settle n (Delivery kg)))
 keeps_delivery rows past b n kg a c =
     let d = done b (Settle n (Delivery kg)) in
     let k = contract_at b n in
     let r = contract_row b n in
-    let t = told_at rows past b n a.passed.live c in
+    let t = response_at rows past b n a.passed.live c in
     let u = added rows past d n (Some (Delivery kg)) (same_event n (Delivery kg)) in
     let p = pays rows past b n kg t in
     let full = fully_delivered r k.trade.lots (delivered_after r k kg) in
@@ -282,7 +282,7 @@ keeps_delivery rows past b n kg a c =
     })
     c
 
-pub keeps_event : (rows : List Row) (past : List Done) (b : Ledger) (n : ℕ) (e : Event) → Accepts b (Settle n e) → Tie rows past b.desk → Tie rows (past ++ done b (Settle n e) ∷ []) (desk_after b (Settle n e))
+pub keeps_event : (rows : List Row) (past : List Done) (b : Ledger) (n : ℕ) (e : Event) → Accepts b (Settle n e) → Tie rows past b.section → Tie rows (past ++ done b (Settle n e) ∷ []) (section_after b (Settle n e))
 keeps_event rows past b n Funding a k = keeps_funding rows past b n a k
 keeps_event rows past b n (Delivery kg) a k = keeps_delivery rows past b n kg a k
 keeps_event rows past b n Default a k = keeps_default rows past b n a k

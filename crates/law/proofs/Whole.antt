@@ -7,8 +7,8 @@ use Rattle.charge.specs.Charges.{Fair}
 use Rattle.rules.specs.declared.rows.Row.{Row}
 use Rattle.rules.specs.declared.refusals.Refusal.{Refusal}
 use Rattle.rules.specs.declared.calls.Call.{Call}
-use Rattle.rules.specs.declared.calls.Request.{Request}
-use Rattle.rules.specs.declared.calls.Request.TheVariants.{Make, Ask}
+use Rattle.rules.specs.declared.requests.Request.{Request}
+use Rattle.rules.specs.declared.requests.Request.TheVariants.{Make, Ask}
 use Rattle.rules.specs.Limits.{Ledger, position, position_holds}
 use Rattle.rules.specs.Rulings.{Feed, ruling}
 use Rattle.rules.specs.Effects.{after}
@@ -48,7 +48,7 @@ module _ (rows : List Row) (xs ys : List ℕ) (past : List Done) (b : Ledger) (k
   made_firm f c r false x e = unmoved b
 
   request_firm : (f : Feed) (r : Request) → is_rating r ≡ false → NoWorse b (next b f r)
-  request_firm f (Make c) r = made_firm f c r (takes b.desk.half c) (ruling b f c) refl
+  request_firm f (Make c) r = made_firm f c r (takes b.half c) (ruling b f c) refl
   request_firm f (Ask q) r = unmoved b
 
 firm : (o : Start) → Fair o.charge → Firm o

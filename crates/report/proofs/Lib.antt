@@ -1,4 +1,7 @@
-pub mod Listing
-pub mod Picking
-pub mod Reporting
-pub mod Days
+pub mod Adding
+pub mod Opening
+pub mod Onward
+pub mod Listed
+pub mod Whole
+pub mod Tables
+pub mod Room

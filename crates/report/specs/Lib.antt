@@ -1,5 +1,7 @@
-pub mod Notes
+pub mod Parsed
 pub mod Reports
+pub mod Runs
 pub mod Texts
-pub mod Days
 pub mod LineTexts
+pub mod Days
+pub mod Ready

@@ -15,7 +15,7 @@ signed_field z = codes "," ++ signed_decimal z
 
 -- a line, without its feed
 abbrev pub shown_line : ReportLine → List ℕ
-shown_line (Accepted n x y) = decimal n ++ codes ",A" ++ field x ++ field y
+shown_line (Accepted n v) = decimal n ++ codes ",A" ++ field v.first ++ field v.second
 shown_line (Refused n s) = decimal n ++ codes ",R," ++ letter s.layer ++ field s.number ++ field s.place
 shown_line (Member m p c fp fc) = codes "M" ++ field m ++ field p ++ field c ++ signed_field fp ++ signed_field fc
 

@@ -1,20 +1,25 @@
 // Why a line of a sheet has no answers.
 ghost use Rattle.std.specs.Prelude.{◌≡◌};
-ghost use Rattle.report.specs.Notes.{fault_of, shown};
+ghost use Rattle.report.specs.Parsed.{code, fault_of};
 ghost use Rattle.report.specs.declared.faults.SheetFault.TheVariants.{NotRead};
 
-use rules::calls::RequestFault;
-use rules::refusals::{Layer, Refusal, Shown};
+use rules::{Layer, Refusal, RefusalCode, RequestFault};
 use sheet::LineFault;
+use thiserror::Error;
 
 /// Why a line has no answers: it is not in its form, it does not belong here, or the book refuses its call. A sheet
 /// that is too long is refused whole.
-#[derive(Clone, Copy)]
+#[derive(Clone, Copy, Debug, PartialEq, Eq, Error)]
 pub enum SheetFault {
+    #[error(transparent)]
     NotRead(LineFault),
     /// The half of the day does not take the verb, or a row comes after the opening.
+    #[error("this part of the day does not take the line")]
     Misplaced,
+    /// The sheet has more than [`MAX_SHEET_BYTES`](rules::MAX_SHEET_BYTES).
+    #[error("the sheet has more than 65536 bytes")]
     LongSheet,
+    #[error(transparent)]
     Refused(Refusal),
 }
 
@@ -39,16 +44,16 @@ impl From<RequestFault> for SheetFault {
 
 impl SheetFault {
     /// What a report shows of the fault, by name and by a match, as of any refusal.
-    pub fn shown(self) -> Shown
-        ensures { result ≡ shown self }
+    pub fn code(self) -> RefusalCode
+        ensures { result ≡ code self }
     {
         let number = match self {
-            SheetFault::NotRead(fault) => return fault.shown(),
-            SheetFault::Refused(refusal) => return refusal.shown(),
+            SheetFault::NotRead(fault) => return fault.code(),
+            SheetFault::Refused(refusal) => return refusal.code(),
             SheetFault::Misplaced => 55,
             SheetFault::LongSheet => 56,
         };
-        Shown {
+        RefusalCode {
             layer: Layer::Sheet,
             number,
             place: 0,

@@ -1,16 +1,16 @@
-// Runs a day sheet and reports on it.
+// Runs a day sheet line by line, and writes its report.
 #![tactic(auto)]
 
+mod days;
 mod faults;
 mod lines;
 mod members;
-mod reading;
+mod ready;
+mod rows;
 mod running;
 mod texts;
+mod writing;
 
+pub use days::run_day;
 pub use faults::SheetFault;
-pub use lines::ReportLine;
-pub use members::{member_line, member_lines};
-pub use reading::{note, opens};
-pub use running::{MOST_BYTES, answers, report_line, run_sheet};
-pub use texts::LineText;
+pub use ready::run_sheet;

@@ -1,115 +1,124 @@
-// Runs a whole day sheet.
-ghost use Rattle.std.specs.Prelude.{◌≡◌, ◌≤◌, cond, [], ◌∷◌, ◌++◌, length, IfOk, OnOk};
-ghost use Rattle.report.specs.Notes.{request_in, shown};
-ghost use Rattle.report.specs.declared.faults.SheetFault.TheVariants.{LongSheet};
-ghost use Rattle.report.specs.declared.lines.ReportLine.TheVariants.{Refused};
-ghost use Rattle.report.specs.Reports.{Reported, answers, becomes, first, left_after, line_of, lines_report};
-ghost use Rattle.rules.specs.Law.{kinds};
-ghost use Rattle.book.specs.Houses.{start_of};
+// Runs the lines of a sheet that is ready.
+ghost use Rattle.std.specs.Prelude.{◌≡◌, ◌+◌, ◌≤◌, true, length};
+ghost use Rattle.rules.specs.Limits.{trading};
+ghost use Rattle.book.specs.SectionBook.{book_of};
+ghost use Rattle.book.specs.Views.{keepers_of, seen};
+ghost use Rattle.sheet.specs.Cursors.{lines_left};
+ghost use Rattle.sheet.specs.Lines.{read_line};
+ghost use Rattle.report.specs.Parsed.{call_line, timely};
+ghost use Rattle.report.specs.Reports.{answers_of};
+ghost use Rattle.report.specs.Runs.{BookRun, HasRoom, LineRun, LinesRun};
 
 use crate::faults::SheetFault;
-use crate::lines::ReportLine;
-use crate::members::member_lines;
-use crate::reading::{read_sheet, requests_in, rows_in};
-use book::House;
+use crate::members::report_members;
+use crate::writing::Report;
+use book::{BookView, SectionBook};
 use charge::ChargeRule;
 use keeper::Keeper;
-use rules::calls::{Answer, RequestFault, Told};
-use section::replay;
-use sheet::Line;
-use std::alloc::{AllocError, Global};
-use std::slice::Iter;
+use rules::{Answer, Answers, Call, Request, Response};
+use section::Section;
+use sheet::{Line, Lines, read_line};
 
-/// A sheet has at most so many bytes.
-pub const MOST_BYTES: usize = 65_536;
+/// The call that a line makes once the book is open: a row is then late.
+#[inline(always)]
+fn read_call(line: &[u8]) -> Result<Call, SheetFault>
+    ensures { call_line result ≡ timely true (read_line line.now) }
+{
+    match read_line(line)? {
+        Line::Call(call) => Ok(call),
+        Line::Instrument(_) => Err(SheetFault::Misplaced),
+    }
+}
 
 /// A call's answers, or its fault.
-pub fn answers(told: Told) -> Result<(u64, u64), SheetFault>
-    ensures { result ≡ answers told }
+fn answers(response: Response) -> Result<Answers, SheetFault>
+    ensures { result ≡ answers_of response }
 {
-    match told? {
-        Answer::Accepted { first, second } => Ok((first, second)),
-        Answer::Replied(_) => Ok((0, 0)),
+    match response? {
+        Answer::Accepted(answers) => Ok(answers),
+        Answer::Replied(_) => Ok(Answers::from(0)),
     }
 }
 
-/// The report's line for a line of the sheet.
-pub fn report_line(line: u64, outcome: Result<(u64, u64), SheetFault>) -> ReportLine
-    ensures { result ≡ line_of line outcome }
+/// Makes a line's call to an open book.
+// In place: a book that is moved from line to line takes longer.
+fn run_line<M: Keeper, G: Keeper, R: ChargeRule>(
+    book: &mut SectionBook<M, G, R>,
+    line: &[u8],
+) -> Result<Answers, SheetFault>
+    ensures { LineRun ⟦<SectionBook<M, G, R> as BookView>⟧ book.old
+        (timely true (read_line line.now)) result book.new }
 {
-    match outcome {
-        Ok((first, second)) => ReportLine::Accepted {
-            line,
-            first,
-            second,
-        },
-        Err(fault) => ReportLine::Refused {
-            line,
-            shown: fault.shown(),
-        },
+    let call = read_call(line)?;
+    answers(book.take(Request::Make(call)))
+}
+
+/// Runs the lines of a sheet from the one that opens the book on, and reports on them.
+fn run_lines<M: Keeper, G: Keeper, R: ChargeRule>(
+    book: &mut SectionBook<M, G, R>,
+    lines: Lines<'_>,
+    report: &mut Report,
+)
+    requires few { report.old.lines + length (lines_left lines) ≤ 65537 }
+    requires room { HasRoom report.old (length (lines_left lines) + 64) }
+    ensures run { LinesRun M.Registers G.Registers
+        (⟦<SectionBook<M, G, R> as BookView>⟧.snapshot book.old) (keepers_of (book_of book.old))
+        (lines_left lines.entry) report.old report.new
+        (⟦<SectionBook<M, G, R> as BookView>⟧.snapshot book.new) (keepers_of (book_of book.new)) }
+    ensures room { HasRoom report.new 64 }
+{
+    for line in lines {
+        report.add_answers(run_line(book, line));
     }
 }
 
-/// What becomes of a line: a row answers 0 and 0, a call what is told next.
-fn becomes(
-    note: &Result<Line, SheetFault>,
-    told: &mut Iter<'_, Told>,
-) -> Result<(u64, u64), SheetFault>
-    ensures outcome { result ≡ becomes note.now (first told.old.rest.now) }
-    ensures left { told.new.rest.now ≡ left_after note.now told.old.rest.now }
+/// Runs the lines of a sheet from the one that opens the book on, and reports on them and, if there is any, on the
+/// members.
+fn run_book<M: Keeper, G: Keeper, R: ChargeRule>(
+    book: &mut SectionBook<M, G, R>,
+    lines: Lines<'_>,
+    report: &mut Report,
+)
+    requires few { report.old.lines + length (lines_left lines) ≤ 65537 }
+    requires room { HasRoom report.old (length (lines_left lines) + 64) }
+    ensures { BookRun M.Registers G.Registers
+        (⟦<SectionBook<M, G, R> as BookView>⟧.snapshot book.old) (keepers_of (book_of book.old))
+        (lines_left lines.entry) report.old report.new (keepers_of (book_of book.new)) }
 {
-    match (*note)? {
-        Line::Instrument(_) => Ok((0, 0)),
-        Line::Call(_) => told
-            .next()
-            .map_or(Err(SheetFault::Misplaced), |told| answers(*told)),
+    run_lines(book, lines, report);
+    if !lines.is_empty() {
+        report_members(book, report);
     }
 }
 
-/// The report's lines for the lines of a sheet.
-fn report_lines(
-    heap: Global,
-    notes: &[Result<Line, SheetFault>],
-    told: &[Told],
-) -> Result<Vec<ReportLine>, AllocError>
-    ensures { IfOk result (λ v. v.items ≡ lines_report 1 0 notes.now told.now) }
-{
-    let mut report = Vec::new(heap);
-    let mut told = told.iter();
-    for (i, note) in notes.iter().enumerate() {
-        report.push(report_line(i as u64 + 1, becomes(note, &mut told)))?;
-    }
-    Ok(report)
+/// The keepers after a run.
+#[derive(Drop)]
+pub(crate) struct Finished<M, G> {
+    pub(crate) money: M,
+    pub(crate) goods: G,
 }
 
-/// Runs a day sheet over a house, and reports on each of its lines and, if it opened the
-/// book, on the members at the end.
-pub fn run_sheet<M: Keeper + Drop, G: Keeper + Drop, R: ChargeRule + Drop>(
-    heap: Global,
-    sheet: &[u8],
-    house: House<M, G, R>,
-) -> Result<Vec<ReportLine>, AllocError>
-    ensures { IfOk result (λ report. Reported (kinds M.Registers G.Registers) (start_of M.Registers G.Registers R.ChargeRule house) sheet.now report.items) }
+/// Opens the book of a section and runs it to its end.
+// A function of its own that takes the keepers by value: a book owns memory, and where one stood beside a `&mut` to a
+// keeper, nothing would be known of the keeper afterwards.
+pub(crate) fn run_section<M: Keeper + Drop, G: Keeper + Drop, R: ChargeRule + Drop>(
+    section: Section,
+    money: M,
+    goods: G,
+    rule: R,
+    lines: Lines<'_>,
+    report: &mut Report,
+) -> Finished<M, G>
+    requires few { report.old.lines + length (lines_left lines) ≤ 65537 }
+    requires room { HasRoom report.old (length (lines_left lines) + 64) }
+    ensures { BookRun M.Registers G.Registers
+        (seen trading M.Registers G.Registers R.ChargeRule section money goods rule)
+        (record { money = money; goods = goods })
+        (lines_left lines.entry) report.old report.new
+        (record { money = result.money; goods = result.goods }) }
 {
-    if sheet.len() > MOST_BYTES {
-        return refused_whole(heap);
-    }
-    let notes = read_sheet(heap, sheet)?;
-    let rows = rows_in(heap, notes.lines.as_slice())?;
-    let requests = requests_in(heap, notes.lines.as_slice())?;
-    let (told, book) = replay(heap, rows.as_slice(), house, requests.as_slice())?;
-    let mut report = report_lines(heap, notes.lines.as_slice(), told.as_slice())?;
-    if notes.opened {
-        report.extend_from_slice(member_lines(heap, &book)?.as_slice())?;
-    }
-    Ok(report)
-}
-
-/// The report of a sheet that is too long.
-fn refused_whole(heap: Global) -> Result<Vec<ReportLine>, AllocError>
-    ensures { IfOk result (λ v. v.items ≡ Refused 0 (shown LongSheet) ∷ []) }
-{
-    let mut report = Vec::new(heap);
-    report.push(report_line(0, Err(SheetFault::LongSheet)))?;
-    Ok(report)
+    let mut book = SectionBook::new(section, money, goods, rule);
+    run_book(&mut book, lines, report);
+    let (money, goods, _rule) = book.into_parts();
+    Finished { money, goods }
 }

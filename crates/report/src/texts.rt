@@ -1,19 +1,19 @@
 // The text of a line of a report.
-ghost use Rattle.std.specs.Prelude.{◌≡◌, ◌+◌, ◌<◌, ◌≤◌, [], ◌∷◌, ◌++◌, decimal, drop, IsAscii};
+ghost use Rattle.std.specs.Prelude.{◌≡◌, ◌+◌, ◌<◌, ◌≤◌, [], ◌∷◌, ◌++◌, decimal, drop, length, IsAscii};
 ghost use Rattle.report.specs.Texts.{field, shown_line, signed_field};
 
 use crate::lines::ReportLine;
 use itoa::write_digits;
 
 /// A line has at most so many bytes: a member's has a letter, and five fields of a comma, a sign and 20 digits.
-const LINE_BYTES: usize = 111;
+pub(crate) const LINE_BYTES: usize = 111;
 
 /// A text that is written from its end, as the digits of a number come, with room for a line of a report.
 // Not by `write!` or piece by piece, since a sheet is to be run as fast as by plain Rust: by `write!` a line took some
 // 260 instructions more, and by `itoa` and `write_str`, inlined, 110: below plain Rust's speed for trades (0.98) and
 // deliveries (0.92).
 #[derive(Clone, Copy)]
-pub struct LineText {
+pub(crate) struct LineText {
     bytes: [u8; LINE_BYTES],
     start: usize,
     ghost within: { start ≤ 111 },
@@ -24,7 +24,7 @@ impl LineText {
     ghost use Rattle.report.specs.LineTexts.{text_of};
 
     /// Nothing is written.
-    pub fn new() -> LineText
+    pub(crate) fn new() -> LineText
         ensures text { text_of result ≡ [] }
         ensures start { result.start ≡ 111 }
     {
@@ -74,8 +74,9 @@ impl LineText {
     }
 
     /// What is written.
-    pub fn as_str(&self) -> &str
-        ensures { result.now ≡ text_of self.now }
+    pub(crate) fn as_str(&self) -> &str
+        ensures text { result.now ≡ text_of self.now }
+        ensures short { length result.now ≤ LINE_BYTES }
     {
         // All of it is ASCII, so no test is needed.
         unsafe { std::str::from_utf8_unchecked(&self.bytes[self.start..]) }
@@ -85,37 +86,24 @@ impl LineText {
 impl ReportLine {
     ghost use Rattle.report.specs.LineTexts.{text_of};
 
-    /// The text of the line, without its feed.
-    pub fn text(&self) -> LineText
-        ensures { text_of result ≡ shown_line self.now }
-    {
-        let mut text = LineText::new();
-        self.write_to(&mut text);
-        text
-    }
-
     /// Writes the line to a text, in place of what is there.
     // In place: a text that is copied as soon as it is made takes longer.
-    pub fn write_to(&self, text: &mut LineText)
+    pub(crate) fn write_to(&self, text: &mut LineText)
         ensures { text_of text.new ≡ shown_line self.now }
     {
         *text = LineText::new();
         match *self {
-            ReportLine::Accepted {
-                line,
-                first,
-                second,
-            } => {
-                text.field(second);
-                text.field(first);
+            ReportLine::Accepted { line, answers } => {
+                text.field(answers.second);
+                text.field(answers.first);
                 text.put(b'A');
                 text.put(b',');
                 text.number(line);
             }
-            ReportLine::Refused { line, shown } => {
-                text.field(shown.place);
-                text.field(shown.number);
-                text.put(shown.layer.letter());
+            ReportLine::Refused { line, code } => {
+                text.field(code.place);
+                text.field(code.number);
+                text.put(code.layer.letter());
                 text.put(b',');
                 text.put(b'R');
                 text.put(b',');
@@ -125,11 +113,11 @@ impl ReportLine {
                 member,
                 position,
                 clearing,
-                freeposition,
-                freeclearing,
+                free_position,
+                free_clearing,
             } => {
-                text.signed_field(freeclearing);
-                text.signed_field(freeposition);
+                text.signed_field(free_clearing);
+                text.signed_field(free_position);
                 text.field(clearing);
                 text.field(position);
                 text.field(member);

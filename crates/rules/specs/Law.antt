@@ -5,11 +5,11 @@ use Rattle.keeper.specs.declared.keepers.Registers as registers
 use Rattle.charge.specs.declared.ChargeRule as rule
 use Rattle.charge.specs.Charges.{Charge}
 use Rattle.rules.specs.declared.rows.Row.{Row}
-use Rattle.rules.specs.declared.calls.Request.{Request}
+use Rattle.rules.specs.declared.requests.Request.{Request}
 use Rattle.rules.specs.Terms.{in_force}
 use Rattle.rules.specs.Holds.{payment_to_date}
 use Rattle.rules.specs.Limits.{Ledger, opening, free_position, free_clearing, free_goods}
-use Rattle.rules.specs.Runs.{Kinds, Meant, Told, is_rating, Point, Step, reached, Run}
+use Rattle.rules.specs.Runs.{Keepers, Meant, Response, is_rating, Snapshot, Step, reached, Run}
 use Rattle.rules.specs.History.{Done, accepted, trade_in, row_in, kilograms_in, payments_in, endings, money_brought, money_taken, goods_brought, goods_taken}
 
 -- what a run starts from: rows, the charge rule's top and charge, and what the two keepers mean
@@ -24,19 +24,15 @@ pub record Start : Type 0 where
 abbrev pub start : {M G R : Type 0} → registers.Ghosts M → registers.Ghosts G → rule.Ghosts R → List Row → M → G → R → Start
 start m g r rows money goods charges = record { rows = rows; top = r.top charges; charge = r.charge charges; money = m.meaning money; goods = g.meaning goods }
 
--- the kinds that two types of keepers are
-abbrev pub kinds : {M G : Type 0} → registers.Ghosts M → registers.Ghosts G → Kinds
-kinds m g = record { money = m.conduct; goods = g.conduct }
-
 -- the opening ledger, with the two keepers
-abbrev pub opened : Start → Point
+abbrev pub opened : Start → Snapshot
 opened o = record { ledger = opening o.top o.charge o.rows o.money.amounts o.goods.amounts; money = o.money; goods = o.goods }
 
 abbrev pub rows_of : Start → List Row
 rows_of o = in_force o.top o.rows
 
 -- what stands at a point that accepted calls led to from a start
-pub record Stands (o : Start) (calls : List Done) (p : Point) : Type 0 where
+pub record Stands (o : Start) (calls : List Done) (p : Snapshot) : Type 0 where
   -- the keepers have the ledger's amounts
   pub money_kept : p.money.amounts ≡ p.ledger.money
   pub goods_kept : p.goods.amounts ≡ p.ledger.goods
@@ -63,17 +59,20 @@ pub record Lawful (o : Start) (steps : List Step) : Type 0 where
   pub firm : (before : List Step) (s : Step) (rest : List Step) → before ++ s ∷ rest ≡ steps → is_rating s.request ≡ false →
       NoWorse (reached (opened o) before).ledger (reached (opened o) (before ++ s ∷ [])).ledger
 
--- what is owed of a run: the kinds of its keepers, its start, what was requested and told, and what the book shows at the end
-pub record RunLaw (k : Kinds) (o : Start) (requests : List Request) (told : List Told) (end : Point) : Type 0 where
-  -- the steps are the requests, in sequence, with what was told of each
+-- what is owed of a run: its start and keepers, the requests and responses, and what is seen of the book at the end, over which keepers
+pub record RunLaw {M G : Type 0} (m : registers.Ghosts M) (g : registers.Ghosts G) (o : Start) (first : Keepers M G) (requests : List Request) (responses : List Response) (end : Snapshot) (last : Keepers M G) : Type 0 where
+  -- the first two keepers mean what the start says
+  pub money_first : o.money ≡ m.meaning first.money
+  pub goods_first : o.goods ≡ g.meaning first.goods
+  -- the steps are the requests, in sequence, with the response to each
   pub steps : List Step
   pub asked : map (λ s. s.request) steps ≡ requests
-  pub answered : map (λ s. s.told) steps ≡ told
+  pub answered : map (λ s. s.response) steps ≡ responses
   -- each answer and each reply is the ledger's, fed nothing but the start and, before each request, the keepers' spares and needs
   pub ruled : Run (opened o) steps
-  -- those spares and needs are what the two keepers come to from the start on, as keepers of their types go on by the ledger's entries
-  pub meant : Meant k (opened o) steps
-  -- the steps lead to what the book shows
+  -- those spares and needs are what the two keepers come to from the first on, as keepers of their types go on by the ledger's entries, and by nothing else
+  pub meant : Meant m g (opened o) first steps last
+  -- the steps lead to what is seen of the book
   pub ended : end ≡ reached (opened o) steps
   -- and they keep the law
   pub lawful : Lawful o steps

@@ -4,7 +4,7 @@ use Rattle.keeper.specs.Meaning.{number as keeper_number}
 use Rattle.rules.specs.declared.refusals.EntryFault.{EntryFault}
 use Rattle.rules.specs.declared.refusals.Layer.{Layer}
 use Rattle.rules.specs.declared.refusals.Layer.TheVariants as layers
-use Rattle.rules.specs.declared.refusals.Shown.{Shown}
+use Rattle.rules.specs.declared.refusals.RefusalCode.{RefusalCode}
 use Rattle.rules.specs.declared.refusals.Refusal.{Refusal}
 use Rattle.rules.specs.declared.refusals.Refusal.TheVariants.{UnknownMember, NoInstrument, BadValue, FreeLimit, PastDay, OrderNumber, OrdersFull, OrderNotLive, Mismatch, BadLots, ContractNumber, ContractsFull, ContractNotLive, ContractState, WrongDay, Money, Goods}
 
@@ -29,18 +29,18 @@ number (Money f) = 41
 number (Goods f) = 42
 
 -- a refusal by the book itself
-abbrev pub of_book : ℕ → Shown
+abbrev pub of_book : ℕ → RefusalCode
 of_book n = record { layer = layers.Book; number = n; place = 0 }
 
 -- an entry that the keeper of a layer refused
-abbrev pub shown_at : Layer → EntryFault → Shown
-shown_at l f = record { layer = l; number = keeper_number f.fault; place = f.register }
+abbrev pub code_at : Layer → EntryFault → RefusalCode
+code_at l f = record { layer = l; number = keeper_number f.fault; place = f.register }
 
 -- layer, number and register: of a keeper's refusal the keeper's own number and the register, else the book's number and 0
-abbrev pub shown : Refusal → Shown
-shown (Money f) = shown_at layers.Money f
-shown (Goods f) = shown_at layers.Goods f
-shown e = of_book (number e)
+abbrev pub code : Refusal → RefusalCode
+code (Money f) = code_at layers.Money f
+code (Goods f) = code_at layers.Goods f
+code e = of_book (number e)
 
 -- the letter that a report shows of a layer
 abbrev pub letter : Layer → List ℕ

@@ -10,7 +10,7 @@ use Rattle.rules.specs.Limits.{Ledger}
 use Rattle.rules.specs.Checks.{Check, checks}
 use Rattle.rules.specs.Entries.{entries}
 
--- what a keeper tells just before a call, besides its amounts
+-- what a keeper answers just before a call, besides its amounts
 pub record Capacity : Type 0 where
   pub spare : ℕ
   pub need : Entry → ℕ

@@ -1,56 +1,59 @@
 // Why a call or a question is refused.
 ghost use Rattle.std.specs.Prelude.{◌≡◌, ◌<◌, [], ◌∷◌};
-ghost use Rattle.rules.specs.Refusals.{letter, number, shown, shown_at};
+ghost use Rattle.rules.specs.Refusals.{code, code_at, letter, number};
 
 use keeper::KeeperFault;
+use thiserror::Error;
 
 /// An entry that a keeper refused: its fault, and the receiver, or the giver of a debit.
-#[derive(Clone, Copy)]
+#[derive(Clone, Copy, Debug, PartialEq, Eq, Error)]
+#[error("register {register}: {fault}")]
 pub struct EntryFault {
     pub fault: KeeperFault,
     pub register: usize,
 }
 
-#[derive(Clone, Copy)]
+/// Why a book refuses a call or a question.
+#[derive(Clone, Copy, Debug, PartialEq, Eq, Error)]
 pub enum Refusal {
-    /// The member is not known.
+    #[error("the member is not known")]
     UnknownMember,
-    /// The instrument has no row, or its goods are not kept here.
+    #[error("the instrument has no row, or its goods are not kept here")]
     NoInstrument,
-    /// A value is outside its limits.
+    #[error("a value is outside its limits")]
     BadValue,
-    /// The free limit is below what is taken.
+    #[error("the free limit is less than the sum")]
     FreeLimit,
-    /// The last day is before today.
+    #[error("the last day is before today")]
     PastDay,
-    /// The order's number is not above all accepted.
+    #[error("the order number is 0 or not above all accepted")]
     OrderNumber,
-    /// As many orders are live as can be.
+    #[error("256 orders are live")]
     OrdersFull,
-    /// The order is not live.
+    #[error("the order is not live")]
     OrderNotLive,
-    /// The two orders and the price do not match.
+    #[error("the two orders and the price do not match")]
     Mismatch,
-    /// The lots are none, or above a rest.
+    #[error("the lots are 0 or more than an order has left")]
     BadLots,
-    /// The contract's number is not above all accepted.
+    #[error("the contract number is 0 or not above all accepted")]
     ContractNumber,
-    /// As many contracts are live as can be.
+    #[error("256 contracts are live")]
     ContractsFull,
-    /// The contract is not live.
+    #[error("the contract is not live")]
     ContractNotLive,
-    /// The contract's state does not allow it.
+    #[error("the contract is not in the state for this")]
     ContractState,
-    /// The day does not allow it.
+    #[error("this is not the day for it")]
     WrongDay,
-    /// The money keeper refuses the entry.
+    #[error("the money keeper refuses it: {0}")]
     Money(EntryFault),
-    /// The goods keeper refuses the entry.
+    #[error("the goods keeper refuses it: {0}")]
     Goods(EntryFault),
 }
 
 /// Where a refusal comes from.
-#[derive(Clone, Copy)]
+#[derive(Clone, Copy, Debug, PartialEq, Eq)]
 pub enum Layer {
     Sheet,
     Book,
@@ -75,8 +78,8 @@ impl Layer {
 
 /// What a report shows of a refusal: of a keeper's its own number and the register, of a sheet's the place of the
 /// field, else the number and 0.
-#[derive(Clone, Copy)]
-pub struct Shown {
+#[derive(Clone, Copy, Debug, PartialEq, Eq)]
+pub struct RefusalCode {
     pub layer: Layer,
     pub number: u64,
     pub place: u64,
@@ -84,10 +87,10 @@ pub struct Shown {
 
 impl EntryFault {
     /// What a report shows of the fault, of the keeper of this layer.
-    fn shown(self, layer: Layer) -> Shown
-        ensures { result ≡ shown_at layer self }
+    fn code(self, layer: Layer) -> RefusalCode
+        ensures { result ≡ code_at layer self }
     {
-        Shown {
+        RefusalCode {
             layer,
             number: self.fault.number(),
             place: self.register as u64,
@@ -123,13 +126,13 @@ impl Refusal {
 
     /// What a report shows of the refusal. By name and not by From: it leaves out what the refusal is, so it is no
     /// conversion, and faults of every layer are shown so.
-    pub fn shown(self) -> Shown
-        ensures { result ≡ shown self }
+    pub fn code(self) -> RefusalCode
+        ensures { result ≡ code self }
     {
         match self {
-            Refusal::Money(fault) => fault.shown(Layer::Money),
-            Refusal::Goods(fault) => fault.shown(Layer::Goods),
-            _ => Shown {
+            Refusal::Money(fault) => fault.code(Layer::Money),
+            Refusal::Goods(fault) => fault.code(Layer::Goods),
+            _ => RefusalCode {
                 layer: Layer::Book,
                 number: self.number(),
                 place: 0,

@@ -1,1 +1,5 @@
-pub mod Running
+pub mod Lists
+pub mod Fitting
+pub mod Holding
+pub mod Rising
+pub mod Settlements

@@ -1,21 +1,22 @@
--- A line is read from its text and from no other, and what is not read has the fault that is told.
+-- A line is read from its text and from no other, and what is not read has the fault that is given.
 use Rattle.std.proofs.Common.{◌≡◌, ℕ, ◌+◌, ◌≤◌, Bool, true, false, cond, eqb, ltb, List, [], ◌∷◌, length, get_or, drop, Some, None, Ok, Err, Option, Result, sym, refl, ap, ◌∙◌, subst, inl, inr, arith, lit≤}
 use Rattle.std.proofs.lemmas.List.{drop_all, drop_more}
-use Rattle.std.proofs.lemmas.Bool.{and_from, and_parts, cond-true, cond-false, eq-eqb, eqb-true, eqb-false, le-ltb, ltb-true, ltb-false}
+use Rattle.std.proofs.lemmas.Bool.{and_from, and_parts, cond-true, cond-false, eq-eqb, eqb-true, eqb-false, false≢true, le-ltb, ltb-true, ltb-false}
 use Rattle.rules.specs.declared.calls.Call.TheVariants.{Deposit, Withdraw, Shift, DepositGoods, WithdrawGoods, Place, Cancel, Execute, Rerate, EndTrading, Settle, EndSession}
 use Rattle.rules.specs.declared.contracts.Event.TheVariants.{Funding, Delivery, Default}
+use Rattle.rules.specs.declared.rows.Row.{Row}
 use Rattle.sheet.specs.declared.outcome.Line.{Line}
 use Rattle.sheet.specs.declared.outcome.Line.TheVariants.{Instrument, Call}
-use Rattle.fields.specs.declared.LineFault.{LineFault}
-use Rattle.fields.specs.declared.LineFault.TheVariants.{LongLine, UnknownVerb, FieldCount, NotInForm}
-use Rattle.sheet.specs.Faults.{FirstMisfit, Begins, Faulty, Reading}
-use Rattle.fields.specs.Forms.{Form, Value, value_in, value_text}
+use Rattle.sheet.specs.declared.faults.LineFault.{LineFault}
+use Rattle.sheet.specs.declared.faults.LineFault.TheVariants.{LongLine, UnknownVerb, FieldCount, NotInForm}
+use Rattle.sheet.specs.Readings.{FirstMisfit, Begins, Faulty, Reading}
+use Rattle.sheet.specs.Forms.{Form, Value, value_in, value_text}
 use Rattle.sheet.specs.Lines.{Maker, made, then_at, read_from, line_in, by_verb, most_bytes, read_line}
-use Rattle.fields.specs.Pieces.{lacks, parts, first_of, others_of, with_commas}
+use Rattle.sheet.specs.Pieces.{lacks, parts, first_of, others_of, with_commas}
 use Rattle.sheet.specs.Texts.{Values, texts, AllFit, Entry, entry_of, entry_text, line_text, Fit, ReadsExactly}
-use Rattle.sheet.specs.Verbs.{Verb, Ins, Dep, Wdr, Shf, Gin, Got, Ord, Cxl, Trd, Rte, Eot, Fnd, Dlv, Dft, Eod, verbs, word, forms_of, is_word, spelled_from, first_spelled, verb_in}
-use Rattle.fields.proofs.Cuts.{pieces_some, all_lack, cut_joined, joined_parts, first_others, sizes, joined_length}
-use Rattle.fields.proofs.Values.{gives, back, misfit, no_comma, most, at_most}
+use Rattle.sheet.specs.Verbs.{Verb, Ins, Dep, Wdr, Shf, Gin, Got, Ord, Cxl, Trd, Rte, Eot, Fnd, Dlv, Dft, Eod, verbs, word, forms_of, is_word, spelled_from, first_spelled, names_row, verb_in}
+use Rattle.sheet.proofs.Cuts.{pieces_some, all_lack, cut_joined, joined_parts, first_others, sizes, joined_length}
+use Rattle.sheet.proofs.Values.{gives, back, misfit, no_comma, most, at_most}
 
 -- the line that a maker makes of its values
 abbrev applied : (fs : List Form) → Maker fs → Values fs → Line
@@ -203,6 +204,17 @@ line_back l h = entry_back (entry_of l).0 (entry_of l).1 h ∙ ap Ok (made_entry
 
 pub reads_exactly : (bs : List ℕ) (r : Result Line LineFault) → r ≡ read_line bs → ReadsExactly bs r
 reads_exactly bs r is l = (λ e. line_gives bs l (sym is ∙ e), λ h e. is ∙ ap read_line e ∙ line_back l h)
+
+-- a line that reads as a row has INS for its first field
+named : (bs : List ℕ) (r : Row) → read_line bs ≡ Ok (Instrument r) → names_row bs ≡ true
+named bs r e =
+    let s = line_gives bs (Instrument r) e in
+    let xs = (entry_of (Instrument r)).1 in
+    let cut = cut_joined (word Ins) (texts (forms_of Ins) xs) (and_from _ _ (plain Ins).1 (texts_lack (forms_of Ins) xs s.0)) in
+    ap names_row s.1 ∙ ap (λ qs. is_word (word Ins) (first_of qs)) cut
+
+pub no_row : (bs : List ℕ) → names_row bs ≡ false → (r : Row) → read_line bs ≡ Ok (Instrument r) → ⊥
+no_row bs other r e = false≢true (sym other ∙ named bs r e)
 
 -- the fault of what is not read
 verb_faulty : (bs : List ℕ) (v : Verb) (e : LineFault) → Begins bs v → line_in v (others_of (parts bs)) ≡ Err e → Faulty bs e

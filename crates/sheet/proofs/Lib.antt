@@ -1,1 +1,5 @@
 pub mod Exact
+pub mod Cuts
+pub mod Numbers
+pub mod LineEnds
+pub mod Values

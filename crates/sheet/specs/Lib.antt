@@ -2,3 +2,10 @@ pub mod Verbs
 pub mod Lines
 pub mod Texts
 pub mod Faults
+pub mod Pieces
+pub mod Sheets
+pub mod Tokens
+pub mod Forms
+pub mod Cursors
+pub mod Readings
+pub mod Rows

@@ -2,12 +2,13 @@
 use Rattle.std.specs.Prelude.{ℕ, ◌+◌, cond, List, [], ◌∷◌, length, Some, None, Ok, Err, Option, Result, ◌==◌, nat_lt}
 use Rattle.rules.specs.declared.calls.Call.TheVariants.{Deposit, Withdraw, Shift, DepositGoods, WithdrawGoods, Place, Cancel, Execute, Rerate, EndTrading, Settle, EndSession}
 use Rattle.rules.specs.declared.contracts.Event.TheVariants.{Funding, Delivery, Default}
+use Rattle.rules.specs.declared.rows.Row.{Row}
 use Rattle.sheet.specs.declared.outcome.Line.{Line}
 use Rattle.sheet.specs.declared.outcome.Line.TheVariants.{Instrument, Call}
-use Rattle.fields.specs.declared.LineFault.{LineFault}
-use Rattle.fields.specs.declared.LineFault.TheVariants.{LongLine, UnknownVerb, FieldCount, NotInForm}
-use Rattle.fields.specs.Forms.{Form, Value, value_in}
-use Rattle.fields.specs.Pieces.{parts, first_of, others_of}
+use Rattle.sheet.specs.declared.faults.LineFault.{LineFault}
+use Rattle.sheet.specs.declared.faults.LineFault.TheVariants.{LongLine, UnknownVerb, FieldCount, NotInForm}
+use Rattle.sheet.specs.Forms.{Form, Value, value_in}
+use Rattle.sheet.specs.Pieces.{parts, first_of, others_of}
 use Rattle.sheet.specs.Verbs.{Verb, Ins, Dep, Wdr, Shf, Gin, Got, Ord, Cxl, Trd, Rte, Eot, Fnd, Dlv, Dft, Eod, forms_of, verb_in}
 
 -- makes a line of a value for each field
@@ -42,6 +43,11 @@ then_at place (Some x) go = go x
 abbrev pub read_from : ℕ → (fs : List Form) → List (List ℕ) → Maker fs → Result Line LineFault
 read_from place [] ps make = Ok make
 read_from place (f ∷ fs) ps make = then_at place (value_in f (first_of ps)) (λ x. read_from (place + 1) fs (others_of ps) (make x))
+
+-- a row that is read, or its fault, as what the line reads as
+abbrev pub row_line : Result Row LineFault → Result Line LineFault
+row_line (Ok r) = Ok (Instrument r)
+row_line (Err e) = Err e
 
 -- what the parts after a verb read as
 abbrev pub line_in : Verb → List (List ℕ) → Result Line LineFault

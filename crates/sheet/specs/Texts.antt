@@ -4,9 +4,9 @@ use Rattle.rules.specs.declared.calls.Call.TheVariants.{Deposit, Withdraw, Shift
 use Rattle.rules.specs.declared.contracts.Event.TheVariants.{Funding, Delivery, Default}
 use Rattle.sheet.specs.declared.outcome.Line.{Line}
 use Rattle.sheet.specs.declared.outcome.Line.TheVariants.{Instrument, Call}
-use Rattle.fields.specs.declared.LineFault.{LineFault}
-use Rattle.fields.specs.Forms.{Form, Value, Fits, value_text}
-use Rattle.fields.specs.Pieces.{with_commas}
+use Rattle.sheet.specs.declared.faults.LineFault.{LineFault}
+use Rattle.sheet.specs.Forms.{Form, Value, Fits, value_text}
+use Rattle.sheet.specs.Pieces.{with_commas}
 use Rattle.sheet.specs.Verbs.{Verb, Ins, Dep, Wdr, Shf, Gin, Got, Ord, Cxl, Trd, Rte, Eot, Fnd, Dlv, Dft, Eod, word, forms_of}
 
 -- a value for each field

@@ -1,7 +1,7 @@
 -- The verbs, their words and their fields. Assumes nothing.
 use Rattle.std.specs.Prelude.{ℕ, ◌+◌, Bool, true, cond, ◌&&◌, List, [], ◌∷◌, length, Some, None, codes, Option, ◌==◌, slice_index}
-use Rattle.fields.specs.Forms.{Form, a_number, an_account, a_side, a_kind, a_last_day}
-use Rattle.fields.specs.Pieces.{parts, first_of}
+use Rattle.sheet.specs.Forms.{Form, a_number, an_account, a_side, a_kind, a_last_day}
+use Rattle.sheet.specs.Pieces.{parts, first_of}
 
 -- the verbs of a day sheet
 pub data Verb : Type 0 where

@@ -1,17 +1,16 @@
 // Reads a line.
-ghost use Rattle.std.specs.Prelude.{◌≡◌};
-ghost use Rattle.sheet.specs.Faults.{Reading};
-ghost use Rattle.sheet.specs.Lines.{by_verb, read_line};
-ghost use Rattle.fields.specs.Pieces.{parts_after};
+ghost use Rattle.std.specs.Prelude.{◌≡◌, false, true, IfNone, IfSome};
+ghost use Rattle.sheet.specs.Readings.{Reading};
+ghost use Rattle.sheet.specs.Lines.{by_verb, read_line, row_line};
+ghost use Rattle.sheet.specs.Pieces.{parts_after};
 ghost use Rattle.sheet.specs.Texts.{ReadsExactly};
 ghost use Rattle.sheet.specs.Verbs.{names_row, verb_in};
 
+use crate::cutting::cut;
+use crate::faults::LineFault;
 use crate::outcome::Line;
 use crate::verbs;
-use fields::{LineFault, cut};
-
-/// A line has at most so many bytes, its feed apart.
-const MOST_BYTES: usize = 120;
+use rules::{MAX_LINE_BYTES, Row};
 
 /// What a verb and the fields after it read as.
 #[inline(always)]
@@ -19,7 +18,7 @@ fn by_verb(verb: &[u8], rest: Option<&[u8]>) -> Result<Line, LineFault>
     ensures { result ≡ by_verb (verb_in verb.now) (parts_after rest.entry) }
 {
     match verb {
-        b"INS" => verbs::instrument(rest),
+        b"INS" => verbs::row(rest).map(Line::Instrument),
         b"DEP" => verbs::deposit(rest),
         b"WDR" => verbs::withdrawal(rest),
         b"SHF" => verbs::shift(rest),
@@ -45,17 +44,25 @@ pub fn read_line(line: &[u8]) -> Result<Line, LineFault>
     ensures reading { Reading line.now result }
     ensures exact { ReadsExactly line.now result }
 {
-    if line.len() > MOST_BYTES {
+    if line.len() > MAX_LINE_BYTES {
         return Err(LineFault::LongLine);
     }
     let (verb, rest) = cut(b',', line);
     by_verb(verb, rest)
 }
 
-/// Whether the line's first field is INS, however long the line is.
-pub fn names_row(line: &[u8]) -> bool
-    ensures { result ≡ names_row line.now }
+/// What a line whose first field is INS reads as, or none where another stands there, however long the line is.
+pub(crate) fn read_row(line: &[u8]) -> Option<Result<Row, LineFault>>
+    ensures other { IfNone result (names_row line.now ≡ false) }
+    ensures named { IfSome result (λ r. names_row line.now ≡ true) }
+    ensures value { IfSome result (λ r. read_line line.now ≡ row_line r) }
 {
-    let (verb, _) = cut(b',', line);
-    matches!(verb, b"INS")
+    let (verb, rest) = cut(b',', line);
+    if !matches!(verb, b"INS") {
+        return None;
+    }
+    if line.len() > MAX_LINE_BYTES {
+        return Some(Err(LineFault::LongLine));
+    }
+    Some(verbs::row(rest))
 }

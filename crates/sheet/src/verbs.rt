@@ -1,29 +1,27 @@
 // The line that each verb makes of the fields after it: a function for each, since what differs is what it makes.
 ghost use Rattle.std.specs.Prelude.{◌≡◌};
-ghost use Rattle.sheet.specs.Lines.{line_in};
-ghost use Rattle.fields.specs.Pieces.{parts_after};
+ghost use Rattle.sheet.specs.Lines.{line_in, row_line};
+ghost use Rattle.sheet.specs.Pieces.{parts_after};
 ghost use Rattle.sheet.specs.Verbs.{Ins, Dep, Wdr, Shf, Gin, Got, Ord, Cxl, Trd, Rte, Eot, Fnd, Dlv, Dft, Eod};
 
+use crate::cursor::Fields;
+use crate::faults::LineFault;
 use crate::outcome::Line;
-use fields::{Fields, LineFault};
-use rules::calls::Call;
-use rules::contracts::{Event, Trade};
-use rules::orders::Order;
-use rules::rows::Row;
+use rules::{Call, Event, Order, Row, Trade};
 
 /// INS: number, kind, kilograms to a lot, funding days, delivery days, rate.
-pub(crate) fn instrument(rest: Option<&[u8]>) -> Result<Line, LineFault>
-    ensures { result ≡ line_in Ins (parts_after rest.entry) }
+pub(crate) fn row(rest: Option<&[u8]>) -> Result<Row, LineFault>
+    ensures { row_line result ≡ line_in Ins (parts_after rest.entry) }
 {
     let mut fields = Fields::exactly(rest, 6)?;
-    Ok(Line::Instrument(Row {
+    Ok(Row {
         number: fields.read()?,
         kind: fields.read()?,
         weight: fields.read()?,
         funding: fields.read()?,
         delivery: fields.read()?,
         rate: fields.read()?,
-    }))
+    })
 }
 
 /// DEP: member, account, amount.

@@ -1,4 +1,0 @@
-pub mod Lists
-pub mod Fitting
-pub mod Holding
-pub mod Rising

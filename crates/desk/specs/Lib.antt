@@ -1,5 +1,0 @@
-pub mod Fits
-pub mod Numbers
-pub mod Views
-pub mod Called
-pub mod Turns

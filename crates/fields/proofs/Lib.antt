@@ -1,5 +1,0 @@
-pub mod Cuts
-pub mod Numbers
-pub mod Sorts
-pub mod LineEnds
-pub mod Values

@@ -1,0 +1,6 @@
+use Rattle.std.proofs.Common.{ap, rules}
+use Rattle.sheet.proofs.LineEnds.{lines_some, no_line}
+use Rattle.sheet.proofs.feeds.Lines.is_empty.Goals as goal
+
+pub returns : goal.returns
+returns c = search (rules, lines_some, no_line)
