@@ -20,7 +20,7 @@ class Generator:
     def __init__(self, seed):
         self.pick = random.Random(seed)
         self.lines = []
-        self.run = model.Run(*model.make_keepers(None))
+        self.run = model.Run(*model.make_keepers(None), model.PERCENT)
 
     def number(self, low, high):
         return self.pick.randint(low, max(low, high))

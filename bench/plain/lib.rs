@@ -16,11 +16,16 @@ use sheet::{Line, MOST_BYTES, lines_of, names_instrument, read_line};
 use std::io::{self, Write};
 
 /// Runs a sheet over table keepers on the first 1,024 places of `money` and `goods`, which are set
-/// to 0 first, with the percent charge rule, and gives the bytes of the report.
+/// to 0 first, with the percent charge rule, and gives the bytes of the report. A sheet that is too
+/// long leaves all places as they were.
 pub fn run_day(sheet: &[u8], money: &mut [u64], goods: &mut [u64]) -> Vec<u8> {
     let mut report = Vec::with_capacity(sheet.len());
-    write_report(sheet, Table::open(money), Table::open(goods), &mut report)
-        .expect("a vector takes every write");
+    let written = if sheet.len() > MOST_BYTES {
+        write_outcome(&mut report, 0, Err(Refusal::LongSheet))
+    } else {
+        write_report(sheet, Table::open(money), Table::open(goods), &mut report)
+    };
+    written.expect("a vector takes every write");
     report
 }
 
@@ -30,9 +35,6 @@ fn write_report(
     goods: Table,
     report: &mut impl Write,
 ) -> io::Result<()> {
-    if sheet.len() > MOST_BYTES {
-        return write_outcome(report, 0, Err(Refusal::LongSheet));
-    }
     let mut lines = (1..).zip(lines_of(sheet)).peekable();
     let mut rows = Vec::new();
     while let Some((number, line)) = lines.next_if(|(_, line)| names_instrument(line)) {

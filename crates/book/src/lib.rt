@@ -19,6 +19,6 @@ mod view;
 pub use book::{Book, SessionBook, TradingBook};
 pub use halves::{HalfOfDay, Session, TakesEvents, TakesOrders, Trading};
 pub use runs::replay;
-pub use section_book::SectionBook;
+pub use section_book::{BookInHalf, SectionBook};
 pub use session::{Delivered, Penalty};
 pub use view::BookView;

@@ -4,12 +4,12 @@ ghost use Rattle.rules.specs.Law.{RunLaw, opened, start};
 ghost use Rattle.book.specs.SectionBook.{book_of};
 ghost use Rattle.book.specs.Views.{keepers_of};
 
+use crate::book::TradingBook;
 use crate::section_book::SectionBook;
 use crate::view::BookView;
 use charge::ChargeRule;
 use keeper::Keeper;
 use rules::{Request, Response, Row};
-use section::Section;
 use std::alloc::{AllocError, Global};
 
 /// Opens a book with the rows that can be used.
@@ -26,8 +26,8 @@ fn open<M: Keeper + Drop, G: Keeper + Drop, R: ChargeRule + Drop>(
     ensures keepers { IfOk result
         (λ b. keepers_of (book_of b) ≡ record { money = money; goods = goods }) }
 {
-    let section = Section::open(heap, &rule, rows)?;
-    Ok(SectionBook::new(section, money, goods, rule))
+    let book = TradingBook::open(heap, rows, money, goods, rule)?;
+    Ok(SectionBook::from(book))
 }
 
 /// Opens a book and takes the requests in turn. The responses, and the book at the end, keep the law of whole runs,

@@ -1,5 +1,5 @@
 // The book that goes from half to half.
-ghost use Rattle.std.specs.Prelude.{◌≡◌, Ok, OnErr};
+ghost use Rattle.std.specs.Prelude.{◌≡◌, ◌↔◌, IsTrue, Ok, OnErr};
 ghost use Rattle.rules.specs.Answering.{one};
 ghost use Rattle.rules.specs.Limits.{trading};
 ghost use Rattle.rules.specs.Questions.{reply};
@@ -8,8 +8,8 @@ ghost use Rattle.book.specs.Calls.{Calls, ledger};
 ghost use Rattle.book.specs.Steps.{Steps};
 ghost use Rattle.book.specs.Views.{parts_of, seen};
 
-use crate::book::Book;
-use crate::halves::AnyHalf;
+use crate::book::{Book, SessionBook, TradingBook};
+use crate::halves::{AnyHalf, Session, Trading};
 use crate::view::BookView;
 use charge::ChargeRule;
 use keeper::Keeper;
@@ -22,10 +22,51 @@ pub struct SectionBook<M, G, R> {
     book: Book<AnyHalf, M, G, R>,
 }
 
+/// The book of a section book by itself, in its half of the day.
+#[derive(Drop)]
+pub enum BookInHalf<M, G, R> {
+    Trading(TradingBook<M, G, R>),
+    Session(SessionBook<M, G, R>),
+}
+
 impl<M: Keeper, G: Keeper, R: ChargeRule> BookView for SectionBook<M, G, R> {
     ghost snapshot = { λ b. ⟦<Book<AnyHalf, M, G, R> as BookView>⟧.snapshot b.book };
 
     ghost goes = { λ b es b'. ⟦<Book<AnyHalf, M, G, R> as BookView>⟧.goes b.book es b'.book };
+}
+
+/// A trading book that goes on from half to half.
+impl<M: Keeper, G: Keeper, R: ChargeRule> From<TradingBook<M, G, R>> for SectionBook<M, G, R> {
+    ghost use Rattle.book.specs.SectionBook.{SameBook, book_of};
+
+    ghost from_gives = { λ half book.
+        SameBook ⟦<TradingBook<M, G, R> as BookView>⟧ ⟦<Book<AnyHalf, M, G, R> as BookView>⟧
+        half (book_of book) };
+
+    fn from(book: TradingBook<M, G, R>) -> SectionBook<M, G, R> {
+        SectionBook::new(book.section, book.money, book.goods, book.rule)
+    }
+}
+
+/// A session book that goes on from half to half.
+impl<M: Keeper, G: Keeper, R: ChargeRule> From<SessionBook<M, G, R>> for SectionBook<M, G, R> {
+    ghost use Rattle.book.specs.SectionBook.{SameBook, book_of};
+
+    ghost from_gives = { λ half book.
+        SameBook ⟦<SessionBook<M, G, R> as BookView>⟧ ⟦<Book<AnyHalf, M, G, R> as BookView>⟧
+        half (book_of book) };
+
+    fn from(book: SessionBook<M, G, R>) -> SectionBook<M, G, R> {
+        SectionBook {
+            book: Book {
+                half: AnyHalf::Session,
+                money: book.money,
+                goods: book.goods,
+                rule: book.rule,
+                section: book.section,
+            },
+        }
+    }
 }
 
 impl<M: Keeper, G: Keeper, R: ChargeRule> Book<AnyHalf, M, G, R> {
@@ -95,9 +136,10 @@ impl<M: Keeper, G: Keeper, R: ChargeRule> Book<AnyHalf, M, G, R> {
 }
 
 impl<M: Keeper, G: Keeper, R: ChargeRule> SectionBook<M, G, R> {
-    ghost use Rattle.book.specs.SectionBook.{book_of};
+    ghost use Rattle.book.specs.SectionBook.{SameBook, StandsInHalf, book_of};
 
-    /// The book of a section over two keepers and a charge rule, in trading.
+    /// The book of a section over two keepers and a charge rule, in trading. It begins as a book that was just opened only
+    /// where the section was opened by this rule and has not changed since; [`TradingBook::open`] sees to both.
     pub fn new(section: Section, money: M, goods: G, rule: R) -> SectionBook<M, G, R>
         ensures snapshot { ⟦<Self as BookView>⟧.snapshot result
             ≡ seen trading M.Registers G.Registers R.ChargeRule section money goods rule }
@@ -135,6 +177,46 @@ impl<M: Keeper, G: Keeper, R: ChargeRule> SectionBook<M, G, R> {
         ensures { result ≡ reply (ledger ⟦<Self as BookView>⟧ self.now) question }
     {
         self.book.ask(question)
+    }
+
+    /// Whether the book is in trading; if not, it is in the session.
+    pub fn is_trading(&self) -> bool
+        ensures { IsTrue result ↔ ((ledger ⟦<Self as BookView>⟧ self.now).half ≡ trading) }
+    {
+        matches!(self.book.half, AnyHalf::Trading)
+    }
+
+    /// The book by itself, in its half of the day; [`SectionBook::from`] leads back.
+    pub fn into_half(self) -> BookInHalf<M, G, R>
+        ensures { StandsInHalf
+            (λ half. SameBook ⟦<TradingBook<M, G, R> as BookView>⟧
+            ⟦<Book<AnyHalf, M, G, R> as BookView>⟧ half (book_of self))
+            (λ half. SameBook ⟦<SessionBook<M, G, R> as BookView>⟧
+            ⟦<Book<AnyHalf, M, G, R> as BookView>⟧ half (book_of self)) result }
+    {
+        let Book {
+            half,
+            money,
+            goods,
+            rule,
+            section,
+        } = self.book;
+        match half {
+            AnyHalf::Trading => BookInHalf::Trading(Book {
+                half: Trading,
+                money,
+                goods,
+                rule,
+                section,
+            }),
+            AnyHalf::Session => BookInHalf::Session(Book {
+                half: Session,
+                money,
+                goods,
+                rule,
+                section,
+            }),
+        }
     }
 
     /// Gives back the keepers and the rule: a journal's entries are then at hand.

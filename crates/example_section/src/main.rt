@@ -1,8 +1,10 @@
-// A section that is run by calls: a book over a journal of money and a table of goods, by the flat rule, for six days.
+// A section that is run by calls: a book over a journal of money and a table of goods, by the flat rule, for six days;
+// and another that is run by requests at once.
 #![tactic(auto)]
 
 mod days;
 mod listing;
+mod replays;
 
 use book::{SessionBook, TradingBook};
 use charge::FlatRule;
@@ -71,6 +73,7 @@ fn main(rt: HostRuntime) -> anyhow::Result<()> {
     days::fail(&mut out, &mut session)?;
     let (money, goods, _) = session.end_session().into_parts();
     listing::print_keepers(&mut out, &money, &goods)?;
+    replays::run(rt.alloc(), &mut out)?;
     out.flush()?;
     Ok(())
 }

@@ -45,6 +45,6 @@ pub struct Effect {
 pub struct Settlement {
     pub number: u64,
     pub effect: Effect,
-    /// The index at which the contract was found.
-    pub(crate) at: usize,
+    /// The index at which the contract was found; with any other it is searched for again.
+    pub at: usize,
 }

@@ -1,4 +1,4 @@
-use Rattle.std.proofs.Common.{ap, rules}
+use Rattle.std.proofs.Common.{rules}
 use Rattle.sheet.proofs.LineEnds.{lines_some, no_line}
 use Rattle.sheet.proofs.feeds.Lines.is_empty.Goals as goal
 

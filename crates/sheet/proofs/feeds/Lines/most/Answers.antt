@@ -1,8 +1,11 @@
-use Rattle.std.proofs.Common.{◌≡◌, eqb, count_by, arith, rules}
+use Rattle.std.proofs.Common.{◌≡◌, eqb, count_by, subst, arith}
+use Rattle.std.proofs.lemmas.List.{take_all}
 use Rattle.sheet.proofs.LineEnds.{lines_within}
 use Rattle.sheet.proofs.feeds.Lines.most.Goals as goal
 
 pub returns-clause-lines : goal.returns-clause-lines
 returns-clause-lines c =
-    let e : c.count.result ≡ count_by (λ b. eqb b 10) c.args.sheet.now = search rules in
-    omega (arith, lines_within c.args.sheet.now)
+    let sheet = c.args.sheet.now in
+    let all : c.loop-byte.feeds ≡ count_by (λ b. eqb b 10) sheet =
+    subst (λ bs. c.loop-byte.feeds ≡ count_by (λ b. eqb b 10) bs) (take_all c.loop-byte.byte-index sheet c.loop-byte-test.false) c.loop-byte.invariant in
+    omega (arith, all, lines_within sheet)
